@@ -1,0 +1,4 @@
+pub mod Form
+pub mod Order
+pub mod Hash
+pub mod Kinds
