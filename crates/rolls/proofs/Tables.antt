@@ -1,24 +1,27 @@
 -- Lists of places after a write at one of them.
 use mathlib.Core.Path.{_≡_, refl, sym, _∙_, ap}
-use mathlib.Core.Bool.{cond}
+use mathlib.Core.Bool.{false, cond}
 use mathlib.Core.List.{List, [], _∷_, _++_}
 use mathlib.Core.Logic.{_⊎_, inl, inr, ⊎-elim}
 use Prim.Native.Nat.{ℕ, zero, suc, _+_, _<_, _≤_}
 use native.Mathlib.Omega.{arith}
 use lib.ListN.{length, getD, set, replicate}
-use Rattle.std.specs.Results.{isOk}
+use Rattle.std.specs.Results.{isOk, isErr}
 use Rattle.std.specs.declared.option.Option.{Option}
 use Rattle.std.specs.declared.option.Option.the-variants.{Some, None}
 use Rattle.std.specs.declared.result.Result.{Result}
 use Rattle.std.specs.declared.result.Result.the-variants.{Ok, Err}
 use Rattle.std.proofs.shelf.Lists.{getD-past, replicate-more, length-replicate}
-use Rattle.std.proofs.shelf.Tests.{cases-lt}
+use Rattle.std.proofs.shelf.Tests.{cases-lt, both-ways}
 use Rattle.rolls.specs.Places.{at, Absent, Distinct, NoneEmpty, Proper, occupied}
 
 module _ {K : Type 0} where
   -- a place with a key is not empty
   pub some-none : {X : Type 0} {o : Option K} (k : K) → o ≡ Some k → o ≡ None → X
   some-none k e n = let z : _≡_ {A = ℕ} 0 1 = cc in absurd (omega arith)
+
+  pub same-some : {j k : K} → Some j ≡ Some k → j ≡ k
+  same-some e = cc
 
   -- a place with a key lies within the roll
   pub within : (ps : List (Option K)) (p : ℕ) (k : K) → at ps p ≡ Some k → p < length ps
@@ -88,5 +91,6 @@ occupied-vacant K zero = refl
 occupied-vacant K (suc n) = occupied-vacant K n
 
 -- one more of the same, pushed
-pub pushed-same : {X U E : Type 0} (r : Result U E) (u : U) (ys xs : List X) (n : ℕ) (x : X) → r ≡ Ok u → ys ≡ cond (isOk r) (xs ++ x ∷ []) xs → xs ≡ replicate n x → ys ≡ replicate (n + 1) x
-pushed-same r u ys xs n x w e h = let m = replicate-more n x in cc
+pub pushed-same : {X U E : Type 0} (r : Result U E) (ys xs : List X) (n : ℕ) (x : X) → isErr r ≡ false → ys ≡ cond (isOk r) (xs ++ x ∷ []) xs → xs ≡ replicate n x → ys ≡ replicate (n + 1) x
+pushed-same (Ok u) ys xs n x w e h = let m = replicate-more n x in cc
+pushed-same (Err u) ys xs n x w e h = absurd (both-ways _ w refl)

@@ -1,0 +1,2 @@
+pub mod Bisection
+pub mod Ranking
