@@ -1,5 +1,7 @@
 ghost use mathlib.Core.Path.{_≡_};
 ghost use Rattle.rolls.specs.Faults.{number-of};
+use std::error::Error;
+use std::fmt;
 
 // Why a roll refuses a call.
 #[derive(Clone, Copy, Debug, PartialEq, Eq)]
@@ -25,3 +27,17 @@ impl RollFault {
         }
     }
 }
+
+// What is printed of a fault.
+pub impl fmt::Display for RollFault as RollFaultDisplay {
+    fn fmt<W: fmt::Write>(&self, f: &mut fmt::Formatter<W>) -> fmt::Result {
+        match self {
+            RollFault::Full => f.pad("no place is empty"),
+            RollFault::Vacant => f.pad("the place is empty already"),
+            RollFault::BadSize => f.pad("a roll has 1 to 64 places"),
+            RollFault::OutOfMemory => f.pad("no memory for the roll"),
+        }
+    }
+}
+
+pub impl Error for RollFault as RollFaultError {}

@@ -4,5 +4,7 @@ mod roll;
 
 pub use fault::RollFault;
 pub use fault::RollFaultDebug;
+pub use fault::RollFaultDisplay;
+pub use fault::RollFaultError;
 pub use fault::RollFaultPartialEq;
 pub use roll::Roll;

@@ -1,8 +1,7 @@
 ghost use mathlib.Core.Path.{_≡_};
-ghost use Prim.Native.Nat.{_≤_};
-ghost use Rattle.std.specs.Of.Vec.{vec-items, vec-len};
-ghost use Rattle.rolls.specs.Places.{at, Made};
-ghost use Rattle.sorted_roll.specs.Ranks.{key-of, below, Sound, RankIn, Vacancy};
+ghost use Rattle.std.specs.Of.Vec.{vec-items};
+ghost use Rattle.rolls.specs.Places.{Found, Made};
+ghost use Rattle.sorted_roll.specs.Ranks.{key-of, below, Sound, RankIn, Vacancy, Put, Cleared};
 use keys::OrderedKey;
 use rolls::Roll;
 use rolls::RollFault;
@@ -16,18 +15,6 @@ pub struct SortedRoll<K> {
     places: Vec<Option<K>>,
     // The places that have keys, in the order of their keys; the index of one is its rank.
     ranks: Vec<usize>,
-}
-
-// An empty place, or none if every place has a key.
-fn vacancy<K: OrderedKey>(places: &[Option<K>]) -> Option<usize>
-    ensures { λ r. ⌜ Vacancy (now (places .entry)) r ⌝ }
-{
-    for place in 0..places.len() {
-        if places[place].is_none() {
-            return Some(place);
-        }
-    }
-    None
 }
 
 impl<K: OrderedKey> SortedRoll<K> {
@@ -75,8 +62,7 @@ impl<K: OrderedKey> SortedRoll<K> {
 
     // The rank at which the key stands or would stand, by bisection.
     fn rank(&self, key: &K) -> usize
-        ensures within { λ r. ⌜ r ≤ vec-len (now (self .entry) .ranks) ⌝ }
-        ensures located { λ r. ⌜ (Sound (K·OrderedKey .order) (now (self .entry)) → RankIn (K·OrderedKey .order) (now (self .entry)) (now (key .entry)) r) ⌝ }
+        ensures { λ r. ⌜ (Sound (K·OrderedKey .order) (now (self .entry)) → RankIn (K·OrderedKey .order) (now (self .entry)) (now (key .entry)) r) ⌝ }
     {
         let mut low = 0;
         let mut high = self.ranks.len();
@@ -89,6 +75,54 @@ impl<K: OrderedKey> SortedRoll<K> {
             }
         }
         low
+    }
+
+    // The place of a rank if the key stands there, or none.
+    fn place_if(&self, rank: usize, key: &K) -> Option<usize>
+        ensures { λ r. ⌜ (Sound (K·OrderedKey .order) (now (self .entry)) → RankIn (K·OrderedKey .order) (now (self .entry)) (now (key .entry)) rank → Found (vec-items (now (self .entry) .places)) (now (key .entry)) r) ⌝ }
+    {
+        let place = *self.ranks.get(rank)?;
+        match self.key_at(place)?.compare(key) {
+            Ordering::Equal => Some(place),
+            _ => None,
+        }
+    }
+
+    // The first empty place, or none if every place has a key.
+    fn vacancy(&self) -> Option<usize>
+        ensures { λ r. ⌜ Vacancy (vec-items (now (self .entry) .places)) r ⌝ }
+    {
+        for place in 0..self.places.len() {
+            if self.key_at(place).is_none() {
+                return Some(place);
+            }
+        }
+        None
+    }
+
+    // Gives an absent key an empty place and its rank; false where there is no room for it.
+    fn put(&mut self, rank: usize, place: usize, key: K) -> bool
+        ensures { λ r. ⌜ Put (K·OrderedKey .order) (now (self .entry)) (now (self .exit)) rank place key r ⌝ }
+    {
+        if rank > self.ranks.len() || place >= self.places.len() {
+            return false;
+        }
+        if self.ranks.insert(rank, place).is_err() {
+            return false;
+        }
+        self.places[place] = Some(key);
+        true
+    }
+
+    // Empties the place of a key and takes its rank away.
+    fn clear(&mut self, rank: usize, place: usize)
+        ensures { λ _. ⌜ Cleared (K·OrderedKey .order) (now (self .entry)) (now (self .exit)) rank place ⌝ }
+    {
+        if rank >= self.ranks.len() || place >= self.places.len() {
+            return;
+        }
+        self.places[place] = None;
+        self.ranks.remove(rank);
     }
 }
 
@@ -110,37 +144,29 @@ pub impl<K: OrderedKey> Roll<K> for SortedRoll<K> as SortedRollRoll {
     }
 
     fn find(&self, key: &K) -> Option<usize> {
-        let place = *self.ranks.get(self.rank(key))?;
-        match self.key_at(place)?.compare(key) {
-            Ordering::Equal => Some(place),
-            _ => None,
-        }
+        self.place_if(self.rank(key), key)
     }
 
     fn enter(&mut self, key: K) -> Result<usize, RollFault> {
         if let Some(place) = self.find(&key) {
             return Ok(place);
         }
-        let Some(place) = vacancy(&self.places) else {
+        let Some(place) = self.vacancy() else {
             return Err(RollFault::Full);
         };
         let rank = self.rank(&key);
-        if self.ranks.insert(rank, place).is_err() {
-            return Err(RollFault::Full);
+        if self.put(rank, place, key) {
+            Ok(place)
+        } else {
+            Err(RollFault::Full)
         }
-        self.places[place] = Some(key);
-        Ok(place)
     }
 
     fn strike(&mut self, place: usize) -> Result<(), RollFault> {
         let Some(key) = self.key_at(place) else {
             return Err(RollFault::Vacant);
         };
-        let rank = self.rank(&key);
-        self.places[place] = None;
-        if rank < self.ranks.len() {
-            self.ranks.remove(rank);
-        }
+        self.clear(self.rank(&key), place);
         Ok(())
     }
 }
