@@ -10,6 +10,8 @@ pub use address::Address;
 pub use address::AddressClone;
 pub use dialing::DialStatus;
 pub use dialing::ReserveResult;
+pub use dialing::ReserveResultDebug;
+pub use dialing::ReserveResultPartialEq;
 pub use fault::RecordFault;
 pub use fault::RecordFaultDebug;
 pub use fault::RecordFaultPartialEq;
