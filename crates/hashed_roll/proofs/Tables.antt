@@ -10,7 +10,7 @@ use Rattle.std.specs.declared.option.Option.the-variants.{Some, None}
 use Rattle.std.proofs.shelf.Lists.{getD-read, getD-past, length-map, length-set, length-replicate, map-set, set-past}
 use Rattle.keys.proofs.Orders.{never}
 use Rattle.rolls.specs.Places.{at, Distinct, Proper, RightSize}
-use Rattle.rolls.proofs.Tables.{distinct-strike, distinct-enter, distinct-vacant}
+use Rattle.rolls.proofs.Tables.{getD-after-set, distinct-strike, distinct-enter, distinct-vacant}
 use Rattle.hashed_roll.specs.Slots.{place-of, places-of, slot-at, is-empty, is-unused}
 use Rattle.hashed_roll.specs.Probing.{Reached, Sound, AllUnused, FirstEmpty, Suits}
 use Rattle.hashed_roll.specs.declared.slot.Slot.{Slot}
@@ -74,11 +74,7 @@ module _ {K : Type 0} where
 
   -- what a slot is after a write at i: what was written, at i, or what it was
   slot-after-set : (slots : List (Slot K)) (i p : ℕ) (v : Slot K) → (slot-at (set slots i v) p ≡ slot-at slots p) ⊎ ((p ≡ i) × (slot-at (set slots i v) p ≡ v))
-  slot-after-set [] i p v = inl refl
-  slot-after-set (s ∷ slots) zero zero v = inr (refl, refl)
-  slot-after-set (s ∷ slots) zero (suc p) v = inl refl
-  slot-after-set (s ∷ slots) (suc i) zero v = inl refl
-  slot-after-set (s ∷ slots) (suc i) (suc p) v = ⊎-elim inl (λ h. inr (ap suc (h .0), h .1)) (slot-after-set slots i p v)
+  slot-after-set slots i p v = getD-after-set slots i p v Unused
 
   used-set : (slots : List (Slot K)) (i : ℕ) (v : Slot K) (p : ℕ) → is-unused v ≡ false → is-unused (slot-at slots p) ≡ false → is-unused (slot-at (set slots i v) p) ≡ false
   used-set slots i v p u h = ⊎-elim (λ e. ap is-unused e ∙ h) (λ e. ap is-unused (e .1) ∙ u) (slot-after-set slots i p v)

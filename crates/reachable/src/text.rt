@@ -10,7 +10,7 @@ fn octet(text: &str) -> Option<u8> {
 }
 
 // Four octets parted by dots.
-pub fn ipv4(text: &str) -> Option<[u8; 4]> {
+pub(crate) fn ipv4(text: &str) -> Option<[u8; 4]> {
     let mut octets = [0; 4];
     let mut count = 0;
     for part in text.split('.') {
@@ -109,7 +109,7 @@ fn joined(head: Groups, tail: Groups) -> [u8; 16] {
 }
 
 // Eight groups; or fewer, with a double colon once in the place of one or more groups of zeros.
-pub fn ipv6(text: &str) -> Option<[u8; 16]> {
+pub(crate) fn ipv6(text: &str) -> Option<[u8; 16]> {
     let Some((front, back)) = text.split_once("::") else {
         let all = read_groups(text)?;
         return if all.count == 8 {

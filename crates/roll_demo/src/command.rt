@@ -12,7 +12,7 @@ pub enum Command {
 }
 
 // A decimal number of 64 bits, with no sign.
-pub fn number(text: &str) -> Option<u64> {
+pub(crate) fn number(text: &str) -> Option<u64> {
     if text.starts_with('+') {
         return None;
     }
@@ -20,7 +20,7 @@ pub fn number(text: &str) -> Option<u64> {
 }
 
 // The command of a line: a sign, one space and a number.
-pub fn read(line: &str) -> Option<Command> {
+pub(crate) fn read(line: &str) -> Option<Command> {
     let (sign, rest) = line.split_once(' ')?;
     let seat = SeatNumber {
         number: number(rest)?,

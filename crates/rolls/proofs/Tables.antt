@@ -15,6 +15,14 @@ use Rattle.std.proofs.shelf.Lists.{getD-past, replicate-more, length-replicate}
 use Rattle.std.proofs.shelf.Tests.{cases-lt, both-ways}
 use Rattle.rolls.specs.Places.{at, Absent, Distinct, NoneEmpty, Proper, occupied}
 
+-- what a list has after a write at i, whatever it has past its end: what was written, at i, or what it had
+pub getD-after-set : {X : Type 0} (xs : List X) (i p : ℕ) (v d : X) → (getD (set xs i v) p d ≡ getD xs p d) ⊎ ((p ≡ i) × (getD (set xs i v) p d ≡ v))
+getD-after-set [] i p v d = inl refl
+getD-after-set (x ∷ xs) zero zero v d = inr (refl, refl)
+getD-after-set (x ∷ xs) zero (suc p) v d = inl refl
+getD-after-set (x ∷ xs) (suc i) zero v d = inl refl
+getD-after-set (x ∷ xs) (suc i) (suc p) v d = ⊎-elim inl (λ h. inr (ap suc (h .0), h .1)) (getD-after-set xs i p v d)
+
 module _ {K : Type 0} where
   -- a place with a key is not empty
   pub some-none : {X : Type 0} {o : Option K} (k : K) → o ≡ Some k → o ≡ None → X
@@ -29,11 +37,7 @@ module _ {K : Type 0} where
 
   -- what a place has after a write at i: what was written, at i, or what it had
   pub after-set : (ps : List (Option K)) (i p : ℕ) (v : Option K) → (at (set ps i v) p ≡ at ps p) ⊎ ((p ≡ i) × (at (set ps i v) p ≡ v))
-  after-set [] i p v = inl refl
-  after-set (x ∷ ps) zero zero v = inr (refl, refl)
-  after-set (x ∷ ps) zero (suc p) v = inl refl
-  after-set (x ∷ ps) (suc i) zero v = inl refl
-  after-set (x ∷ ps) (suc i) (suc p) v = ⊎-elim inl (λ h. inr (ap suc (h .0), h .1)) (after-set ps i p v)
+  after-set ps i p v = getD-after-set ps i p v None
 
   pub distinct-strike : (ps : List (Option K)) (i : ℕ) → Distinct ps → Distinct (set ps i None)
   distinct-strike ps i d p q k e f =
