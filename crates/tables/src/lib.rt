@@ -1,0 +1,4 @@
+// Tables: a roll with a value for each place.
+mod table;
+
+pub use table::Table;
