@@ -1,4 +1,6 @@
-// Tables of cases: times, hosts and bit vectors at their limits, and the course of a record.
+// Tables of cases: times, hosts, bit vectors and bit sets at their limits, and the course of a record.
+#[cfg(test)]
+mod bit_sets_table;
 #[cfg(test)]
 mod record_table;
 #[cfg(test)]

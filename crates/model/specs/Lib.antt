@@ -1,0 +1,7 @@
+pub mod Faults
+pub mod State
+pub mod Peers
+pub mod Sets
+pub mod Calls
+pub mod Track
+pub mod Questions
