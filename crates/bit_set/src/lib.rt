@@ -1,3 +1,5 @@
+#![tactic(auto)]
+
 // An ordered set of peers' keys that notes of each whether its information is known.
 mod bit_set;
 mod fault;

@@ -1,6 +1,6 @@
 -- Lists of slots: the places that they are, and what a write leaves.
 use Rattle.std.specs.Prelude.{◌≡◌, ℕ, zero, suc, ◌<◌, ◌≤◌, Bool, true, false, ◌⊎◌, List, [], ◌∷◌, length, replicate, Some, None, slice_index_or, slice_set, refl}
-use Rattle.std.proofs.Common.{sym, ◌∙◌, ap, subst, inl, inr, ⊎_elim, arith}
+use Rattle.std.proofs.Common.{sym, ◌∙◌, ap, subst, ⊎_elim, arith}
 use Rattle.std.proofs.lemmas.List.{get_or_read, get_or_past, length-map, length-set, length-replicate, map-set, set_past}
 use Rattle.keys.specs.Orders.{never}
 use Rattle.rolls.specs.Places.{at, Distinct, Proper, RightSize}

@@ -1,3 +1,5 @@
+#![tactic(auto)]
+
 // Names of hosts, held as bytes, and the test whether such a name is well formed.
 mod hostname;
 mod label;

@@ -1,12 +1,10 @@
 -- When two addresses are the same.
-use Rattle.std.proofs.Common.{◌≡◌, ℕ, Bool, true, false, List, length, Decides, ap, arith}
+use Rattle.std.proofs.Common.{◌≡◌, ℕ, length, Decides, ap, arith}
 use mathlib.Core.HLevel.{is_prop→PathP}
 use native.Mathlib.Nat.{ℕ_set}
-use Rattle.std.specs.Cmp.Lexicographic.{Matches}
-use Rattle.std.specs.Str.{bytes_eq}
-use Rattle.std.proofs.lemmas.Slice.Eq.{slice_eq-Decides, bytes_eq-Decides}
+use Rattle.std.proofs.lemmas.Slice.Eq.{bytes_eq-Decides}
 use Rattle.std.proofs.lemmas.Bool.{false≢true}
-use Rattle.std.proofs.lemmas.Bool.Decides.{same_from_decides, Decides-like, Decides-eqb}
+use Rattle.std.proofs.lemmas.Bool.Decides.{Decides-like}
 use Rattle.ip_addr.specs.declared.ip_addr.IpAddr.{IpAddr}
 use Rattle.ip_addr.specs.declared.ip_addr.IpAddr.TheVariants.{V4, V6}
 use Rattle.ip_addr.specs.declared.ipv4_addr.Ipv4Addr.{Ipv4Addr}
@@ -25,7 +23,3 @@ same_ip_decides (V4 a) (V4 b) = Decides-like _ (λ e. ap V4 (same_v4 a b e)) (λ
 same_ip_decides (V4 a) (V6 b) = (λ t. absurd (false≢true t), λ e. absurd (let z : ◌≡◌ {A = ℕ} 0 1 = cc in omega arith))
 same_ip_decides (V6 a) (V4 b) = (λ t. absurd (false≢true t), λ e. absurd (let z : ◌≡◌ {A = ℕ} 0 1 = cc in omega arith))
 same_ip_decides (V6 a) (V6 b) = Decides-like _ (λ e. ap V6 (same_v6 a b e)) (λ e. ap octets_of e) (bytes_eq-Decides a.octets b.octets)
-
--- what `==` says of octets
-pub same_octets : (xs ys : List ℕ) (r : Bool) → Matches (λ (a b : ℕ) (t : Bool). Decides t (a ≡ b)) xs ys r → r ≡ bytes_eq xs ys
-same_octets xs ys r m = same_from_decides r (bytes_eq xs ys) (slice_eq-Decides Decides-eqb xs ys r m) (bytes_eq-Decides xs ys)

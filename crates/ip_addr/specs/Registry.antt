@@ -1,7 +1,7 @@
 -- A special-purpose registry: in which of its blocks an address lies, which of these has the longest
 -- prefix, and whether the address is global.
 use Rattle.std.specs.Prelude.{◌≡◌, ℕ, ◌-◌, ◌/◌, ◌^◌, ◌≤◌, Bool, true, false, cond, not, ◌&&◌, ◌||◌, List, [], ◌∷◌, Some, None, filter, Option, ◌==◌, nat_lt}
-use Rattle.std.specs.List.{ContainsAt as Has, AllByRecursion as All}
+use Rattle.std.specs.List.{ContainsAt as Has, AllByRecursion}
 use Rattle.ip_addr.specs.declared.block.Block.{Block}
 use Rattle.ip_addr.specs.declared.global.Global.{Global}
 use Rattle.ip_addr.specs.declared.global.Global.TheVariants.{True, False, NotApplicable}
@@ -50,9 +50,9 @@ longest (b ∷ bs) = Some (or_longer b (longest bs))
 pub record LongestAround (width address : ℕ) (blocks : List Block) (block : Block) : Type 0 where
   pub listed : Has blocks block
   pub around : lies_in width block address ≡ true
-  pub others : All (λ b. lies_in width b address ≡ true → b.prefix ≤ block.prefix) blocks
+  pub others : AllByRecursion (λ b. lies_in width b address ≡ true → b.prefix ≤ block.prefix) blocks
 
 -- such a block, or none, and then the address lies in no block
 abbrev pub LongestOrNone : ℕ → ℕ → List Block → Option Block → Type 0
-LongestOrNone width address blocks None = All (λ b. lies_in width b address ≡ false) blocks
+LongestOrNone width address blocks None = AllByRecursion (λ b. lies_in width b address ≡ false) blocks
 LongestOrNone width address blocks (Some block) = LongestAround width address blocks block

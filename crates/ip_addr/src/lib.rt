@@ -1,3 +1,5 @@
+#![tactic(auto)]
+
 // IP addresses, and which of them are global by the special-purpose registries of RFC 6890.
 mod block;
 mod global;

@@ -1,5 +1,5 @@
 -- The byte form of a key: what it has to meet, how it is written, and the big-endian form of a number.
-use Rattle.std.specs.Prelude.{◌≡◌, ℕ, zero, suc, ◌+◌, ◌*◌, ◌/◌, ◌%◌, ◌^◌, ◌≤◌, Bool, cond, List, [], ◌∷◌, ◌++◌, length, take, drop, Some, None, Option, nat_le}
+use Rattle.std.specs.Prelude.{◌≡◌, ℕ, zero, suc, ◌+◌, ◌/◌, ◌%◌, ◌^◌, ◌≤◌, Bool, cond, List, [], ◌∷◌, ◌++◌, length, take, drop, Some, None, Option, nat_le}
 
 -- What a kind of key owes of its byte form: every form has the same number of bytes, 1 to 64;
 -- no two keys share a form; a form reads as its key, and nothing else does.

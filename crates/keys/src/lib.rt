@@ -1,3 +1,5 @@
+#![tactic(auto)]
+
 // The keys by which peers are known: what every kind of key can do, and two kinds of them.
 mod bytes;
 mod hashed_key;

@@ -1,8 +1,7 @@
 -- The cases of the enums, by number and values.
-use Rattle.std.specs.Prelude.{◌≡◌, ℕ, Bool, true, false, Some, None, Option}
+use Rattle.std.specs.Prelude.{ℕ, Bool, true, false, Some, None, Option}
 use Rattle.types.specs.declared.info.Info.{Info}
 use Rattle.types.specs.declared.ingress.Ingress.{Ingress}
-use Rattle.types.specs.declared.moment.Moment.{Moment}
 use Rattle.record.specs.declared.address.Address.{Address}
 use Rattle.record.specs.declared.address.Address.TheVariants.{Unknown, Myself, Bootstrapper, Discovered}
 use Rattle.record.specs.declared.dialing.DialStatus.{DialStatus}

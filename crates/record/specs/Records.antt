@@ -1,12 +1,12 @@
 -- What a record means: what is asked of it, and what each change makes of it.
-use Rattle.std.specs.Prelude.{◌≡◌, ℕ, ◌+◌, ◌-◌, ◌^◌, min, Bool, true, false, cond, not, ◌&&◌, ◌||◌, Some, None, Ok, Err, Option, Result, ◌==◌, nat_le, nat_lt}
+use Rattle.std.specs.Prelude.{ℕ, ◌+◌, ◌-◌, ◌^◌, min, Bool, true, false, cond, not, ◌&&◌, ◌||◌, Some, None, Ok, Err, Option, Result, ◌==◌, nat_le, nat_lt}
 use Rattle.types.specs.Ingresses.{is_valid, same_ingress}
 use Rattle.types.specs.Times.{plus, jitter, earlier}
 use Rattle.types.specs.declared.info.Info.{Info}
 use Rattle.types.specs.declared.ingress.Ingress.{Ingress}
 use Rattle.types.specs.declared.moment.Moment.{Moment}
 use Rattle.types.specs.declared.span.Span.{Span}
-use Rattle.record.specs.Cases.{address_ingress, is_inert}
+use Rattle.record.specs.Cases.{is_inert}
 use Rattle.record.specs.declared.address.Address.{Address}
 use Rattle.record.specs.declared.address.Address.TheVariants.{Unknown, Myself, Bootstrapper, Discovered}
 use Rattle.record.specs.declared.dialing.DialStatus.{DialStatus}

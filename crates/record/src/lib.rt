@@ -1,3 +1,5 @@
+#![tactic(auto)]
+
 // What a directory knows of one peer.
 mod address;
 mod dialing;

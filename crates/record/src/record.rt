@@ -1,6 +1,6 @@
 ghost use Rattle.std.specs.Prelude.{◌≡◌, true, false};
 ghost use Rattle.record.specs.Cases.{address_ingress, is_inert};
-ghost use Rattle.record.specs.Records.{fresh, outbound_target, eligible as is_eligible, acceptable as is_acceptable, deletable as is-deletable, blockable, teardown, wanted, sharable as sharable-info, dial_status, granted, takes, updated, primary_up, primary_down, secondary_up, secondary_down, reserve_result, after_reserve, connect_answer, connected, came_up, release_answer, released, fell_through, with_address};
+ghost use Rattle.record.specs.Records.{fresh, outbound_target, eligible as is_eligible, acceptable as is_acceptable, deletable as is_deletable, blockable, teardown, wanted, sharable as sharable_info, dial_status, granted, takes, updated, primary_up, primary_down, secondary_up, secondary_down, reserve_result, after_reserve, connect_answer, connected, came_up, release_answer, released, fell_through, with_address};
 ghost use Rattle.record.specs.declared.address.Address.TheVariants.{Unknown, Myself, Bootstrapper};
 ghost use Rattle.record.specs.declared.status.Status.TheVariants.{Reserved};
 
@@ -300,7 +300,7 @@ impl<K: Key> Record<K> {
 
     // The info that may be given to others: our own, or that of a connected peer.
     pub fn sharable(&self) -> Option<Info<K>>
-        ensures { result ≡ sharable-info self.now }
+        ensures { result ≡ sharable_info self.now }
     {
         match (self.address, self.status) {
             (Address::Myself(info), _) => Some(info),
@@ -324,7 +324,7 @@ impl<K: Key> Record<K> {
 
     // Whether the record can be deleted: in no set, not persistent, inert.
     pub fn deletable(&self) -> bool
-        ensures { result ≡ is-deletable self.now }
+        ensures { result ≡ is_deletable self.now }
     {
         self.primary_sets == 0 && self.secondary_sets == 0 && !self.persistent && self.is_inert()
     }

@@ -1,8 +1,8 @@
 -- Lists of places after a write at one of them.
 use Rattle.std.proofs.Common.{◌≡◌, ℕ, zero, suc, ◌+◌, ◌<◌, ◌≤◌, false, cond, ◌⊎◌, List, [], ◌∷◌, ◌++◌, length, get_or, set, replicate, is_ok, is_err, Some, None, Ok, Err, Option, Result, sym, refl, ap, ◌∙◌, inl, inr, ⊎_elim, arith}
-use Rattle.std.proofs.lemmas.List.{get_or_past, replicate_more, length-replicate}
+use Rattle.std.proofs.lemmas.List.{get_or_past, replicate_more}
 use Rattle.std.proofs.lemmas.Bool.{cases_lt, both_ways}
-use Rattle.rolls.specs.Places.{at, Absent, Distinct, NoneEmpty, Proper, occupied}
+use Rattle.rolls.specs.Places.{at, Absent, Distinct, occupied}
 
 -- what a list has after a write at i, whatever it has past its end: what was written, at i, or what it had
 pub getD_after-set : {X : Type 0} (xs : List X) (i p : ℕ) (v d : X) → (get_or (set xs i v) p d ≡ get_or xs p d) ⊎ ((p ≡ i) × (get_or (set xs i v) p d ≡ v))

@@ -1,3 +1,5 @@
+#![tactic(auto)]
+
 // Rolls: tables of places that hold keys.
 mod fault;
 mod roll;

@@ -1,5 +1,5 @@
 -- Bisection over the keys of the ranks.
-use Rattle.std.specs.Prelude.{◌≡◌, ℕ, ◌+◌, ◌<◌, ◌≤◌, Bool, true, false, ◌⊎◌, List, length, get_or, Some, None, Option, ◌≢◌, slice_index_or, refl}
+use Rattle.std.specs.Prelude.{◌≡◌, ℕ, ◌+◌, ◌<◌, ◌≤◌, true, false, ◌⊎◌, List, length, get_or, Some, None, Option, ◌≢◌, slice_index_or, refl}
 use Rattle.std.specs.declared.cmp.Ordering.TheVariants.{Less, Equal, Greater}
 use Rattle.std.specs.declared.cmp.Ordering.{Ordering}
 use Rattle.std.proofs.Common.{sym, ◌∙◌, ap, inl, inr, ⊎_elim, arith}
@@ -60,7 +60,7 @@ module _ {K : Type 0} (order : K → K → Ordering) where
     pub before_middle : (mid : ℕ) → below order (key_of ps rs mid) k ≡ true → (i : ℕ) → i < mid + 1 → below order (key_of ps rs i) k ≡ true
     before_middle mid b i h =
         let m = some_from_below (key_of ps rs mid) k b in
-        let in-ranks = rank_within ps rs mid m.0 m.1 in
+        let in_ranks = rank_within ps rs mid m.0 m.1 in
         let less = less_from_below (key_of ps rs mid) m.0 k m.1 b in
         ⊎_elim
         (λ e. ap (λ x. below order (key_of ps rs x) k) e ∙ b)

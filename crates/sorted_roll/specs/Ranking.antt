@@ -1,5 +1,5 @@
 -- The ranks after a key is entered, and after a place is struck.
-use Rattle.std.specs.Prelude.{◌≡◌, ℕ, ◌+◌, ◌-◌, ◌<◌, ◌≤◌, Bool, true, false, ◌≢◌, ◌⊎◌, List, [], length, replicate, Some, None, Option, slice_index_or, slice_set, refl}
+use Rattle.std.specs.Prelude.{◌≡◌, ℕ, ◌+◌, ◌-◌, ◌<◌, ◌≤◌, ◌≢◌, ◌⊎◌, List, [], length, replicate, Some, None, Option, slice_index_or, slice_set, refl}
 use Rattle.std.specs.declared.cmp.Ordering.TheVariants.{Less, Equal, Greater}
 use Rattle.std.specs.declared.cmp.Ordering.{Ordering}
 use Rattle.std.proofs.Math.Path.{sym, ap}
@@ -8,12 +8,12 @@ use Rattle.std.proofs.Math.Logic.{⊎_elim}
 use Rattle.std.specs.List.{insert, remove}
 use Rattle.std.proofs.lemmas.List.Edits.{length-insert, get_or-insert_below, get_or-insert_at, get_or-insert_above, length-remove, get_or-remove_below, get_or-remove_above}
 use Rattle.std.proofs.lemmas.List.{get_or_past, get_or-set_same, get_or-set_other, length-set, length-replicate}
-use Rattle.std.proofs.lemmas.Bool.{cases_eq, cases_lt, cases_order, both_ways}
+use Rattle.std.proofs.lemmas.Bool.{cases_lt, cases_order, both_ways}
 use Rattle.keys.specs.Order.{Lawful, flipped}
-use Rattle.rolls.specs.Places.{at, Absent, occupied, Proper}
+use Rattle.rolls.specs.Places.{at, Absent, Proper}
 use Rattle.rolls.proofs.Tables.{some_none, within, after-set, at-vacant, occupied-vacant, occupied_enter, occupied_strike}
-use Rattle.sorted_roll.specs.Ranks.{place_of, key_of, below, Ranked, Located}
-use Rattle.sorted_roll.specs.Bisection.{below_is, less_from_below, key_of_past, rank_within, rank_of_key}
+use Rattle.sorted_roll.specs.Ranks.{place_of, key_of, Ranked, Located}
+use Rattle.sorted_roll.specs.Bisection.{below_is, less_from_below, rank_of_key}
 
 -- a new roll has no ranks
 ranked-vacant : {K : Type 0} (order : K → K → Ordering) (n room : ℕ) → 1 ≤ n → n ≤ 64 → n ≤ room → Ranked order (replicate n None) [] room
@@ -72,7 +72,7 @@ module _ {K : Type 0} (order : K → K → Ordering) (lawful : Lawful order) whe
       before_less : (i : ℕ) (a : K) → i < r → key_of ps rs i ≡ Some a → order a k ≡ Less
       before_less i a h e = less_from_below order (key_of ps rs i) a k e (found.before i h)
 
-      module _ (room' p : ℕ) (wider : room ≤ room') (in-ranks : r ≤ length rs) (absent : Absent ps k) (in-places : p < length ps) (empty : at ps p ≡ None) where
+      module _ (room' p : ℕ) (wider : room ≤ room') (in_ranks : r ≤ length rs) (absent : Absent ps k) (in_places : p < length ps) (empty : at ps p ≡ None) where
         ps' : List (Option K)
         ps' = slice_set ps p (Some k)
 
@@ -100,15 +100,15 @@ module _ {K : Type 0} (order : K → K → Ordering) (lawful : Lawful order) whe
 
         key_before : (i : ℕ) → i < r → key_of ps' rs' i ≡ key_of ps rs i
         unfolding ps' rs'
-        key_before i h = kept i _ (ap (slice_index_or (insert rs r p) i) (length-set ps p (Some k)) ∙ get_or-insert_below rs r p (length ps) i h in-ranks)
+        key_before i h = kept i _ (ap (slice_index_or (insert rs r p) i) (length-set ps p (Some k)) ∙ get_or-insert_below rs r p (length ps) i h in_ranks)
 
         key_here : key_of ps' rs' r ≡ Some k
         unfolding ps' rs'
-        key_here = ap (at (slice_set ps p (Some k))) (get_or-insert_at rs r p (length (slice_set ps p (Some k))) in-ranks) ∙ get_or-set_same ps p (Some k) None in-places
+        key_here = ap (at (slice_set ps p (Some k))) (get_or-insert_at rs r p (length (slice_set ps p (Some k))) in_ranks) ∙ get_or-set_same ps p (Some k) None in_places
 
         key_after : (i : ℕ) → r ≤ i → key_of ps' rs' (i + 1) ≡ key_of ps rs i
         unfolding ps' rs'
-        key_after i h = kept i _ (ap (slice_index_or (insert rs r p) (i + 1)) (length-set ps p (Some k)) ∙ get_or-insert_above rs r p (length ps) i h in-ranks)
+        key_after i h = kept i _ (ap (slice_index_or (insert rs r p) (i + 1)) (length-set ps p (Some k)) ∙ get_or-insert_above rs r p (length ps) i h in_ranks)
 
         -- what a rank has after the key is entered
         entered_key : (i : ℕ) → ((i < r) × (key_of ps' rs' i ≡ key_of ps rs i)) ⊎ (((i ≡ r) × (key_of ps' rs' i ≡ Some k)) ⊎ ((r < i) × (key_of ps' rs' i ≡ key_of ps rs (i - 1))))
@@ -143,7 +143,7 @@ module _ {K : Type 0} (order : K → K → Ordering) (lawful : Lawful order) whe
 
         long : length rs' ≡ length rs + 1
         unfolding rs'
-        long = length-insert rs r p in-ranks
+        long = length-insert rs r p in_ranks
 
         entered-held : (i : ℕ) → i < length rs' → key_of ps' rs' i ≢ None
         entered-held i h n =
@@ -160,10 +160,10 @@ module _ {K : Type 0} (order : K → K → Ordering) (lawful : Lawful order) whe
             let l = sound.listed q j (sym a ∙ e) in
             let i = l.0 in
             ⊎_elim
-            (λ h. (i, omega (arith, long), ap (slice_index_or (insert rs r p) i) (length-set ps p (Some k)) ∙ get_or-insert_below rs r p (length ps) i h in-ranks ∙ l.2))
-            (λ h. (i + 1, omega (arith, long), ap (slice_index_or (insert rs r p) (i + 1)) (length-set ps p (Some k)) ∙ get_or-insert_above rs r p (length ps) i h in-ranks ∙ l.2))
+            (λ h. (i, omega (arith, long), ap (slice_index_or (insert rs r p) i) (length-set ps p (Some k)) ∙ get_or-insert_below rs r p (length ps) i h in_ranks ∙ l.2))
+            (λ h. (i + 1, omega (arith, long), ap (slice_index_or (insert rs r p) (i + 1)) (length-set ps p (Some k)) ∙ get_or-insert_above rs r p (length ps) i h in_ranks ∙ l.2))
             (cases_lt i r))
-            (λ a. (r, omega (arith, long), get_or-insert_at rs r p (length (slice_set ps p (Some k))) in-ranks ∙ sym a.0))
+            (λ a. (r, omega (arith, long), get_or-insert_at rs r p (length (slice_set ps p (Some k))) in_ranks ∙ sym a.0))
             (after-set ps p q (Some k))
 
         ranked_inserted : Ranked order (slice_set ps p (Some k)) (insert rs r p) room'
@@ -176,7 +176,7 @@ module _ {K : Type 0} (order : K → K → Ordering) (lawful : Lawful order) whe
               held = entered-held;
               ascends = entered-ascends;
               listed = entered-listed;
-              counted = omega (arith, long, occupied_enter ps p k in-places empty, sound.counted);
+              counted = omega (arith, long, occupied_enter ps p k in_places empty, sound.counted);
               roomy = omega (arith, sound.roomy);
             }
 
@@ -190,12 +190,12 @@ module _ {K : Type 0} (order : K → K → Ordering) (lawful : Lawful order) whe
         -- no other rank names the place
         another : (i : ℕ) → i ≢ r → place_of ps rs i ≢ p
         another i n e =
-            let in-places = within ps p k here in
-            let at-r : key_of ps rs r ≡ Some k = ap (at ps) at_rank.1 ∙ here in
+            let in_places = within ps p k here in
+            let at_r : key_of ps rs r ≡ Some k = ap (at ps) at_rank.1 ∙ here in
             let at_i : key_of ps rs i ≡ Some k = ap (at ps) e ∙ here in
             ⊎_elim
             (λ s. n s)
-            (⊎_elim (λ l. not_itself k (sound.ascends i r k k l at_i at-r)) (λ g. not_itself k (sound.ascends r i k k g at-r at_i)))
+            (⊎_elim (λ l. not_itself k (sound.ascends i r k k l at_i at_r)) (λ g. not_itself k (sound.ascends r i k k g at_r at_i)))
             (cases_order i r)
 
         left : (i : ℕ) (q : ℕ) → i ≢ r → q ≡ place_of ps rs i → at (slice_set ps p None) q ≡ key_of ps rs i

@@ -1,7 +1,7 @@
 -- A sorted roll keeps, beside its places, those that have keys in the order of their keys. The
 -- index of a place in that order is its rank.
 use Rattle.std.specs.Prelude.{◌≡◌, ℕ, ◌<◌, ◌≤◌, Bool, true, false, List, length, Some, None, vec_items, vec_capacity, Option, ◌≢◌, slice_index_or, slice_set}
-use Rattle.std.specs.declared.cmp.Ordering.TheVariants.{Less, Equal, Greater}
+use Rattle.std.specs.declared.cmp.Ordering.TheVariants.{Less}
 use Rattle.std.specs.declared.cmp.Ordering.{Ordering}
 use Rattle.keys.specs.Order.{is_less}
 use Rattle.rolls.specs.Places.{at, occupied, Absent, NoneEmpty}

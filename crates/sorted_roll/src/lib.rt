@@ -1,3 +1,5 @@
+#![tactic(auto)]
+
 // A roll that finds its keys by bisection.
 mod sorted_roll;
 

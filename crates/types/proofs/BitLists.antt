@@ -1,12 +1,12 @@
 -- Bits of numbers, of lists of bytes and of bit vectors.
-use Rattle.std.proofs.Common.{◌≡◌, ℕ, zero, suc, ◌+◌, ◌-◌, ◌*◌, ◌/◌, ◌%◌, ◌^◌, ◌<◌, ◌≤◌, min, Bool, true, false, not, eqb, ltb, ◌⊎◌, List, [], ◌∷◌, ◌++◌, length, get_or, take, drop, set, replicate, Some, None, Option, sym, refl, ap, ◌∙◌, inl, inr, ⊎_elim, div-one, arith}
+use Rattle.std.proofs.Common.{◌≡◌, ℕ, zero, suc, ◌+◌, ◌-◌, ◌*◌, ◌/◌, ◌%◌, ◌^◌, ◌<◌, ◌≤◌, min, Bool, true, false, not, eqb, ltb, List, [], ◌∷◌, ◌++◌, length, get_or, take, drop, set, Some, None, sym, refl, ap, ◌∙◌, ⊎_elim, div-one, arith}
 use Prim.Native.Nat.{differ}
 use native.Mathlib.Nat.{pow-succ', div-div-eq-div-mul}
 use lib.Bits.{bit_and, bit_xor, xor_step, xor_zero_r}
 use Rattle.std.proofs.lemmas.Nat.{and_mask}
 use Rattle.std.proofs.lemmas.List.{length-append, get_or_append_left, get_or-append_right, set-append_left, set-append_right, get_or-take, length-take, set-get_or, set_past, drop-set-lt}
 use Rattle.std.proofs.lemmas.Bool.{cases_lt, eq-eqb, ne_eqb, lt-ltb, le-ltb}
-use Rattle.types.specs.Bits.{odd, low_bits, bits_of, bits, spare_bits, bit_at, Written}
+use Rattle.types.specs.Bits.{odd, low_bits, bits_of, bits, bit_at, Written}
 use Rattle.types.specs.declared.bit_vec.BitVec.{BitVec}
 
 -- a bit of a list

@@ -1,5 +1,5 @@
 -- Bit vectors as lists of bits.
-use Rattle.std.specs.Prelude.{◌≡◌, ℕ, zero, suc, ◌/◌, ◌%◌, Bool, true, false, cond, List, [], ◌∷◌, ◌++◌, length, take, drop, replicate, Some, None, Option, ◌==◌, slice_set}
+use Rattle.std.specs.Prelude.{◌≡◌, ℕ, zero, suc, ◌/◌, ◌%◌, Bool, false, List, [], ◌∷◌, ◌++◌, take, drop, replicate, Some, None, Option, ◌==◌, slice_set}
 use Rattle.types.specs.declared.bit_vec.BitVec.{BitVec}
 
 -- whether a number is odd

@@ -1,3 +1,5 @@
+#![tactic(auto)]
+
 // The values that records and gossip are made of.
 mod bit_vec;
 mod info;

@@ -1,5 +1,5 @@
 ghost use Rattle.std.specs.Prelude.{◌≡◌};
-ghost use Rattle.types.specs.Times.{plus, jitter, earlier, earliest as earliest-of};
+ghost use Rattle.types.specs.Times.{plus, jitter, earlier, earliest as earliest_of};
 
 use super::moment::Moment;
 use super::span::Span;
@@ -40,7 +40,7 @@ impl Moment {
 
 // The earlier of two moments, or the second where there is no first.
 pub fn earliest(first: Option<Moment>, second: Moment) -> Moment
-    ensures { result ≡ earliest-of first second }
+    ensures { result ≡ earliest_of first second }
 {
     match first {
         Some(first) => Moment {

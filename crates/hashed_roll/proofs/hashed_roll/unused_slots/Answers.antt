@@ -6,11 +6,11 @@ use Rattle.hashed_roll.proofs.hashed_roll.unused_slots.Goals as goal
 
 pub loop-slot-preserved : goal.loop-slot-preserved
 loop-slot-preserved g c =
-    pushed_same _ _ _ _ _ (ap is_err c.in-ok-push.was) c.push.ensures.items c.loop-slot.invariant
+    pushed_same _ _ _ _ _ (ap is_err c.in_ok-push.was) c.push.ensures.items c.loop-slot.invariant
 
 pub returns : goal.returns
 returns g c =
-    all_unused g.K.HashedKey.hashed c.loop-slot.slots.items c.loop-slot.-slot c.args.size c.loop-slot.invariant (omega arith)
+    all_unused g.K.HashedKey.hashed c.loop-slot.slots.items c.loop-slot._slot c.args.size c.loop-slot.invariant (omega arith)
 
-pub returns-in-err-push : goal.returns-in-err-push
-returns-in-err-push g c = IfOk-from_err c.from-residual.result _ c.from-residual.ensures.0
+pub returns-in_err-push : goal.returns-in_err-push
+returns-in_err-push g c = IfOk-from_err c.from_residual.result _ c.from_residual.ensures.0

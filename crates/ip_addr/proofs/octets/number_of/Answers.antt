@@ -4,15 +4,15 @@ use Rattle.std.proofs.lemmas.List.{take_all}
 use Rattle.ip_addr.proofs.Numbers.{number_small, number_one_more}
 use Rattle.ip_addr.proofs.octets.number_of.Goals as goal
 
-pub overflow-mul-number : goal.overflow-mul-number
-overflow-mul-number c =
-    let small = number_small c.args.octets.now c.loop-octet.octet-index (λ k. (c.type-inv.octets k).fits) (omega arith) in
+pub overflow_mul-number : goal.overflow_mul-number
+overflow_mul-number c =
+    let small = number_small c.args.octets.now c.loop-octet.octet-index (λ k. (c.type_inv.octets k).fits) (omega arith) in
     omega arith
 
-pub overflow-add-number : goal.overflow-add-number
-overflow-add-number c =
-    let small = number_small c.args.octets.now c.loop-octet.octet-index (λ k. (c.type-inv.octets k).fits) (omega arith) in
-    omega (arith, (c.type-inv.octets c.loop-octet.octet-index).fits)
+pub overflow_add-number : goal.overflow_add-number
+overflow_add-number c =
+    let small = number_small c.args.octets.now c.loop-octet.octet-index (λ k. (c.type_inv.octets k).fits) (omega arith) in
+    omega (arith, (c.type_inv.octets c.loop-octet.octet-index).fits)
 
 pub loop-octet-preserved : goal.loop-octet-preserved
 loop-octet-preserved c =

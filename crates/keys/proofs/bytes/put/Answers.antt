@@ -1,4 +1,4 @@
-use Rattle.std.proofs.Common.{◌≡◌, ◌+◌, ◌-◌, ◌≤◌, true, length, sym, ◌∙◌, arith}
+use Rattle.std.proofs.Common.{◌≡◌, ◌+◌, ◌-◌, true, length, sym, ◌∙◌, arith}
 use Rattle.std.proofs.lemmas.List.Edits.{paste_all}
 use Rattle.std.proofs.lemmas.Slice.{put_mid-paste}
 use Rattle.std.proofs.lemmas.Bool.{cond-true, le-leb}
@@ -14,5 +14,5 @@ returns c =
     let t : fits out at bytes ≡ true = le-leb (at + length bytes) (length out) (omega arith) in
     record {
       end = sym (cond-true _ _ _ t);
-      after = put_mid-paste at (at + length bytes - at) out c.copy-from-slice.new.self bytes (length bytes) c.copy-from-slice.ensures.after n (omega arith) ∙ paste_all out at bytes (length bytes) (omega arith) ∙ sym (cond-true _ _ _ t);
+      after = put_mid-paste at (at + length bytes - at) out c.copy_from_slice.new.self bytes (length bytes) c.copy_from_slice.ensures.after n (omega arith) ∙ paste_all out at bytes (length bytes) (omega arith) ∙ sym (cond-true _ _ _ t);
     }

@@ -4,9 +4,9 @@ use Rattle.hashed_roll.specs.Tables.{told}
 use Rattle.hashed_roll.proofs.Walks.{vacancy_there, vacancy_nowhere}
 use Rattle.hashed_roll.proofs.hashed_roll.HashedRoll.vacancy.Goals as goal
 
-pub returns-then-is-empty : goal.returns-then-is-empty
-returns-then-is-empty g c =
-    vacancy_there _ _ _ _ _ c.loop-seen.invariant (omega arith) (told is_empty _ _ _ c.slot.ensures.there c.if-is-empty.ensures)
+pub returns-then-is_empty : goal.returns-then-is_empty
+returns-then-is_empty g c =
+    vacancy_there _ _ _ _ _ c.loop-seen.invariant (omega arith) (told is_empty _ _ _ c.slot.ensures.there c.if-is_empty.ensures)
 
 pub returns : goal.returns
 returns g c = vacancy_nowhere _ _ _ _ _ c.loop-seen.invariant (omega arith)

@@ -11,7 +11,7 @@ pub returns-then-has : goal.returns-then-has
 returns-then-has g c sound =
     found_there _ _ _ _ _ c.loop-seen.invariant (omega arith) _ c.slot-slot.ensures.there c.if-has.ensures
 
-pub returns-then-is-unused : goal.returns-then-is-unused
-returns-then-is-unused g c sound =
+pub returns-then-is_unused : goal.returns-then-is_unused
+returns-then-is_unused g c sound =
     absent_unused _ _ _ _ _ c.loop-seen.invariant sound (omega arith)
-    (told is_unused _ _ _ c.slot-slot.ensures.there c.if-is-unused.ensures)
+    (told is_unused _ _ _ c.slot-slot.ensures.there c.if-is_unused.ensures)

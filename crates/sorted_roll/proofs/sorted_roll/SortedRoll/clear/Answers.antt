@@ -9,12 +9,12 @@ returns-then-rank-len g c key sound located here =
     let s = c.args.self.now in
     let found = at_rank g.K.OrderedKey.order g.met.K.OrderedKey.lawful s.places.items s.ranks.items s.ranks.cap sound key c.args.rank located c.args.place here in
     let inside = within s.places.items c.args.place key here in
-    let out-of-reach : ⊥ =
+    let out_of_reach : ⊥ =
     elim c.then-rank-len.branch [
       | then-rank-len-via-then-rank-len w ↦ omega (arith, found.0, s.ranks.ok.0)
       | then-rank-len-via-else-rank-len+then-place-len w ↦ omega (arith, inside, s.places.ok.0)
     ] in
-    absurd out-of-reach
+    absurd out_of_reach
 
 pub returns : goal.returns
 returns g c key sound located here =

@@ -1,4 +1,4 @@
-use Rattle.std.proofs.Common.{◌≡◌, ◌≤◌, length, sym, ap, ◌∙◌, arith}
+use Rattle.std.proofs.Common.{◌≤◌, length, sym, ap, arith}
 use Rattle.std.proofs.lemmas.Bool.{ltb-false}
 use Rattle.sorted_roll.specs.Bisection.{key_of_past}
 use Rattle.sorted_roll.proofs.sorted_roll.SortedRoll.key_of.Goals as goal

@@ -1,4 +1,4 @@
-use Rattle.std.proofs.Common.{◌≡◌, ℕ, ◌<◌, Some, None, vec_items}
+use Rattle.std.proofs.Common.{◌≡◌, ℕ, ◌<◌, None, vec_items}
 use Rattle.rolls.specs.Places.{at}
 use Rattle.sorted_roll.proofs.sorted_roll.SortedRoll.vacancy.Given as goal
 

@@ -1,4 +1,4 @@
-use Rattle.std.proofs.Common.{Some, None, sym, rules}
+use Rattle.std.proofs.Common.{None, sym, rules}
 use Rattle.std.proofs.lemmas.List.{get_or_past}
 use Rattle.sorted_roll.proofs.sorted_roll.SortedRollRoll.key_at.Goals as goal
 

@@ -2,8 +2,8 @@ use Rattle.std.proofs.Common.{arith}
 use Rattle.types.proofs.BitLists.{bits_past, bits_there}
 use Rattle.types.proofs.bit_vec.BitVec.bit.Goals as goal
 
-pub returns-then-i-ge-MOST-BITS : goal.returns-then-i-ge-MOST-BITS
-returns-then-i-ge-MOST-BITS c =
+pub returns-then-i-ge-MOST_BITS : goal.returns-then-i-ge-MOST_BITS
+returns-then-i-ge-MOST_BITS c =
     let past = bits_past c.args.self.now c.args.i (omega arith) in
     record { value = λ h. past.0; there = λ h. past.1 }
 

@@ -1,4 +1,4 @@
-use Rattle.std.proofs.Common.{◌≡◌, [], drop, sym, refl, ap, ◌∙◌, arith}
+use Rattle.std.proofs.Common.{[], drop, sym, ap, ◌∙◌, arith}
 use Rattle.std.proofs.lemmas.List.{drop_all}
 use Rattle.keys.specs.Order.{lexical}
 use Rattle.keys.specs.Orders.{lexical_less, lexical_greater, lexical_more}
