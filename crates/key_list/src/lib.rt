@@ -1,3 +1,5 @@
+#![tactic(auto)]
+
 // Up to 64 keys in a row, held without asking for memory.
 mod key_list;
 

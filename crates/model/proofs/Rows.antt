@@ -1,18 +1,17 @@
 -- Worked rows: what the definitions give at seat numbers.
-use Rattle.std.proofs.Common.{◌≡◌, ℕ, Bool, true, false, List, [], ◌∷◌, replicate, Some, None, Ok, Err, Result, refl, lit<}
+use Rattle.std.proofs.Common.{◌≡◌, ℕ, Bool, true, false, List, [], ◌∷◌, replicate, Ok, Err, refl}
 use Rattle.keys.specs.Order.{ranked}
 use Rattle.ip_addr.specs.declared.ip_addr.IpAddr.TheVariants.{V4}
 use Rattle.types.specs.declared.info.Info.{Info}
 use Rattle.types.specs.declared.ingress.Ingress.{Ingress}
 use Rattle.types.specs.declared.ingress.Ingress.TheVariants.{Socket}
 use Rattle.types.specs.declared.moment.Moment.{Moment}
-use Rattle.model.specs.Calls.{dial, listen, turn_answer, after_reserving, after_telling, record_of, after_update, update_answer, block_answer, after_block}
-use Rattle.model.specs.Peers.{Turn, connect_turn, release_turn}
+use Rattle.model.specs.Calls.{dial, listen, turn_answer, after_reserving, after_telling, record_of, after_update, update_answer, after_block}
+use Rattle.model.specs.Peers.{connect_turn, release_turn}
 use Rattle.model.specs.Questions.{asked, tracked, reserved}
 use Rattle.model.specs.State.{State, PeerSet}
 use Rattle.model.specs.Track.{first_state, init_answer, track_answer, after_track}
 use Rattle.model.specs.declared.config.Config.{Config}
-use Rattle.model.specs.declared.fault.Fault.{Fault}
 use Rattle.model.specs.declared.fault.Fault.TheVariants as fault
 
 abbrev at : ℕ → Moment
@@ -33,7 +32,6 @@ config =
       dial_fail_limit = 1;
       peer_connection_cooldown = record { millis = 1000 };
       block_duration = record { millis = 5000 };
-      counted = lit< tt;
     }
 
 abbrev s0 : State ℕ

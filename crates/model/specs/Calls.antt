@@ -7,9 +7,8 @@ use Rattle.types.specs.declared.info.Info.{Info}
 use Rattle.types.specs.declared.moment.Moment.{Moment}
 use Rattle.record.specs.Records.{wanted, takes, updated}
 use Rattle.record.specs.declared.record.Record.{Record}
-use Rattle.key_list.specs.Keys.{is_equal}
-use Rattle.tables.specs.Listings.{lookup, put, cut, entries_where}
-use Rattle.model.specs.Peers.{Turn, refuse, write, erase, is_blocked, dial_turn, listen_turn, connect_turn, release_turn}
+use Rattle.tables.specs.Listings.{is_equal, lookup, put, cut}
+use Rattle.model.specs.Peers.{Turn, refuse, write, erase, is_blocked, dial_turn, listen_turn}
 use Rattle.model.specs.Sets.{marked_all}
 use Rattle.model.specs.State.{State, PeerSet}
 use Rattle.model.specs.declared.fault.Fault.{Fault}
@@ -118,7 +117,8 @@ module _ {K : Type 0} (order : K → K → Ordering) where
 -- blocks that have expired go
 
 abbrev pub unexpired : {K : Type 0} → Moment → List (K × Moment) → List (K × Moment)
-unexpired now = entries_where (λ k expiry. earlier now expiry)
+unexpired now [] = []
+unexpired now (b ∷ bs) = cond (earlier now b.1) (b ∷ unexpired now bs) (unexpired now bs)
 
 -- whether any has
 abbrev pub any_expired : {K : Type 0} → Moment → List (K × Moment) → Bool

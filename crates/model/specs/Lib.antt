@@ -5,4 +5,5 @@ pub mod Sets
 pub mod Calls
 pub mod Track
 pub mod Questions
+pub mod There
 pub mod Runs

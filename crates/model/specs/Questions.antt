@@ -1,5 +1,5 @@
 -- What each question answers.
-use Rattle.std.specs.Prelude.{ℕ, ◌-◌, ◌%◌, Bool, true, false, cond, not, ◌&&◌, ltb, List, [], ◌∷◌, length, Some, None, Ok, Err, Option, Result, ◌==◌, nat_lt}
+use Rattle.std.specs.Prelude.{ℕ, suc, ◌-◌, ◌%◌, Bool, true, false, cond, not, ◌&&◌, List, [], ◌∷◌, length, Some, None, Ok, Err, Option, Result, ◌==◌, nat_lt}
 use Rattle.std.specs.declared.cmp.Ordering.{Ordering}
 use Rattle.std.specs.List.{slice_get}
 use Rattle.types.specs.Times.{earlier, earliest}
@@ -11,12 +11,10 @@ use Rattle.record.specs.declared.dialing.DialStatus.{DialStatus}
 use Rattle.record.specs.declared.dialing.DialStatus.TheVariants as dial
 use Rattle.record.specs.declared.record.Record.{Record}
 use Rattle.record.specs.declared.role.Role.{Role}
-use Rattle.tables.specs.Listings.{keys_where}
 use Rattle.model.specs.Calls.{record_of, block_of}
 use Rattle.model.specs.Peers.{is_blocked}
 use Rattle.model.specs.Sets.{set_at}
 use Rattle.model.specs.State.{State, PeerSet}
-use Rattle.model.specs.declared.config.Config.{Config}
 use Rattle.model.specs.declared.fault.Fault.{Fault}
 use Rattle.model.specs.declared.fault.Fault.TheVariants as fault
 
@@ -52,13 +50,11 @@ module _ {K : Type 0} (order : K → K → Ordering) where
   abbrev pub status_of : State K → Moment → Record K → DialStatus
   status_of s now r = dial_status r now s.config.allow_private_ips s.config.allow_dns
 
-  -- whether a peer can be dialled now: it is unblocked, and its dial status says so
-  abbrev pub can_dial : State K → Moment → K → Record K → Bool
-  can_dial s now k r = not (is_blocked now (block_of order s k)) && is_now (status_of s now r)
-
-  -- the keys that can be dialled now, in key order
-  abbrev pub dialable_keys : State K → Moment → List K
-  dialable_keys s now = keys_where (can_dial s now) s.records
+  -- the keys that can be dialled now: unblocked, in key order
+  abbrev pub dialable_keys : State K → Moment → List (K × Record K) → List K
+  dialable_keys s now [] = []
+  dialable_keys s now (e ∷ es) =
+      cond (not (is_blocked now (block_of order s e.0)) && is_now (status_of s now e.1)) (e.0 ∷ dialable_keys s now es) (dialable_keys s now es)
 
   -- when to ask again: the earliest moment from which on another peer can be dialled, or at which the block of one with a
   -- record expires
@@ -100,7 +96,8 @@ module _ {K : Type 0} (order : K → K → Ordering) where
 module _ {K : Type 0} where
   -- the peers that are blocked, in key order
   abbrev pub blocked_keys : Moment → List (K × Moment) → List K
-  blocked_keys now = keys_where (λ k expiry. earlier now expiry)
+  blocked_keys now [] = []
+  blocked_keys now (b ∷ bs) = cond (earlier now b.1) (b.0 ∷ blocked_keys now bs) (blocked_keys now bs)
 
   -- the earliest expiry of a block
   abbrev pub first_expiry : List (K × Moment) → Option Moment → Option Moment
@@ -109,10 +106,13 @@ module _ {K : Type 0} where
 
   -- all primaries, and those that are secondaries only, in key order
   abbrev pub all_primary : List (K × Record K) → List K
-  all_primary = keys_where (λ k r. ltb 0 r.primary_sets)
+  all_primary [] = []
+  all_primary (e ∷ es) = cond (nat_lt 0 e.1.primary_sets) (e.0 ∷ all_primary es) (all_primary es)
 
   abbrev pub all_secondary : List (K × Record K) → List K
-  all_secondary = keys_where (λ k r. not (nat_lt 0 r.primary_sets) && nat_lt 0 r.secondary_sets)
+  all_secondary [] = []
+  all_secondary (e ∷ es) =
+      cond (not (nat_lt 0 e.1.primary_sets) && nat_lt 0 e.1.secondary_sets) (e.0 ∷ all_secondary es) (all_secondary es)
 
   -- the set of a draw, oldest first, or none while there is none
   abbrev pub drawn_set : ℕ → List (PeerSet K) → Option (PeerSet K)
@@ -124,8 +124,9 @@ module _ {K : Type 0} where
   abbrev pub tracked : State K → ℕ
   tracked s = length s.records - 1
 
-  abbrev pub reserved_in : List (K × Record K) → List K
-  reserved_in = keys_where (λ k r. not (is_inert r.status))
+  abbrev pub reserved_in : List (K × Record K) → ℕ
+  reserved_in [] = 0
+  reserved_in (e ∷ es) = cond (is_inert e.1.status) (reserved_in es) (suc (reserved_in es))
 
   abbrev pub reserved : State K → ℕ
-  reserved s = length (reserved_in s.records)
+  reserved s = reserved_in s.records

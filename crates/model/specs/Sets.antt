@@ -1,7 +1,8 @@
 -- The sets held: their members, and the bits of their primaries.
-use Rattle.std.specs.Prelude.{ℕ, Bool, true, false, cond, ◌||◌, List, [], ◌∷◌, Some, None, Option, ◌==◌}
+use Rattle.std.specs.Prelude.{ℕ, Bool, false, cond, ◌||◌, List, [], ◌∷◌, Some, None, Option, ◌==◌}
 use Rattle.std.specs.declared.cmp.Ordering.{Ordering}
-use Rattle.key_list.specs.Keys.{is_equal}
+pub use Rattle.key_list.specs.Keys.{has, without}
+use Rattle.tables.specs.Listings.{is_equal}
 use Rattle.model.specs.State.{PeerSet}
 
 -- the primaries of a set
@@ -13,7 +14,7 @@ module _ {K : Type 0} (order : K → K → Ordering) where
   -- the bit of a key written, if it is among the primaries
   abbrev pub marked : K → Bool → List (K × Bool) → List (K × Bool)
   marked k bit [] = []
-  marked k bit (m ∷ ms) = cond (is_equal (order m.0 k)) ((m.0, bit) ∷ ms) (m ∷ marked k bit ms)
+  marked k bit (m ∷ ms) = (m.0, cond (is_equal (order m.0 k)) bit m.1) ∷ marked k bit ms
 
   -- the bit of a key written in every set held
   abbrev pub marked_all : K → Bool → List (PeerSet K) → List (PeerSet K)

@@ -9,10 +9,9 @@ use Rattle.types.specs.declared.ingress.Ingress.{Ingress}
 use Rattle.record.specs.Records.{fresh, wanted, deletable, teardown, primary_up, primary_down, secondary_up, secondary_down}
 use Rattle.record.specs.declared.address.Address.TheVariants.{Unknown, Myself, Bootstrapper}
 use Rattle.record.specs.declared.record.Record.{Record}
-use Rattle.key_list.specs.Keys.{has, without}
-use Rattle.tables.specs.Listings.{lookup, put, keys_where, entries_where}
+use Rattle.tables.specs.Listings.{lookup, put}
 use Rattle.model.specs.Calls.{with_records}
-use Rattle.model.specs.Sets.{primaries, is_held, newest}
+use Rattle.model.specs.Sets.{has, without, primaries, is_held, newest}
 use Rattle.model.specs.State.{State, PeerSet}
 use Rattle.model.specs.declared.config.Config.{Config}
 use Rattle.model.specs.declared.fault.Fault.{Fault}
@@ -90,19 +89,9 @@ module _ {K : Type 0} (order : K → K → Ordering) where
 
   -- leaving
 
-  -- the record of a key changed, if there is one
-  abbrev pub changed : (Record K → Record K) → K → Option (Record K) → List (K × Record K) → List (K × Record K)
-  changed change k None records = records
-  changed change k (Some r) records = put order k (change r) records
-
-  -- the record of each key of a list changed alike, where there is one
-  abbrev pub each_there : (Record K → Record K) → List K → List (K × Record K) → List (K × Record K)
-  each_there change [] records = records
-  each_there change (k ∷ ks) records = each_there change ks (changed change k (lookup order k records) records)
-
   -- the members of a set that leaves are in one set fewer
   abbrev pub left : PeerSet K → List (K × Record K) → List (K × Record K)
-  left set records = each_there secondary_down set.secondary (each_there primary_down (primaries set.primary) records)
+  left set records = each secondary_down set.secondary (each primary_down (primaries set.primary) records)
 
   -- whether a set has a key
   abbrev pub is_member : PeerSet K → K → Bool
@@ -110,11 +99,13 @@ module _ {K : Type 0} (order : K → K → Ordering) where
 
   -- the members of a set whose links are to be closed, in key order
   abbrev pub to_close : PeerSet K → List (K × Record K) → List K
-  to_close set = keys_where (λ k r. is_member set k && teardown r)
+  to_close set [] = []
+  to_close set (e ∷ es) = cond (is_member set e.0 && teardown e.1) (e.0 ∷ to_close set es) (to_close set es)
 
   -- the records without those of members that nothing holds any more
   abbrev pub tidied : PeerSet K → List (K × Record K) → List (K × Record K)
-  tidied set = entries_where (λ k r. not (is_member set k && deletable r))
+  tidied set [] = []
+  tidied set (e ∷ es) = cond (is_member set e.0 && deletable e.1) (tidied set es) (e ∷ tidied set es)
 
   -- tracking
 

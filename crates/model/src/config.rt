@@ -1,5 +1,3 @@
-ghost use Rattle.std.specs.Prelude.{◌^◌, ◌<◌};
-
 use types::Span;
 
 // The settings of a directory.
@@ -17,6 +15,4 @@ pub struct Config {
     pub peer_connection_cooldown: Span,
     // How long a block lasts.
     pub block_duration: Span,
-    // The limit is a number of 64 bits, like the failures that are counted against it.
-    ghost counted: { dial_fail_limit < 2 ^ 64 },
 }

@@ -1,3 +1,5 @@
+#![tactic(auto)]
+
 // What a directory means: its state, and what each call answers and leaves.
 mod config;
 mod fault;

@@ -106,12 +106,12 @@ module _ {K V : Type 0} (order : K → K → Ordering) where
         below_nth d (y ∷ fs) (suc j) x b g = lawful.chains d.0 y.0 x.0 b.0 (below_nth y fs j x b.1 g)
 
     -- ks are the keys of the entries: what stands at a rank is the key there with the value that a look-up gives
-    module _ (es : List (K × V)) (ks : List K) (i : ℕ) (ascends : Ascending order es) (of-entries : ks ≡ keys es) where
+    module _ (es : List (K × V)) (ks : List K) (i : ℕ) (ascends : Ascending order es) (of_entries : ks ≡ keys es) where
       pub rank_past : None ≡ slice_get ks i → None ≡ slice_get es i
-      rank_past e = sym (no_entry_from_key es i (ap (λ js. slice_get js i) (sym of-entries) ∙ sym e))
+      rank_past e = sym (no_entry_from_key es i (ap (λ js. slice_get js i) (sym of_entries) ∙ sym e))
 
       rank_entry : (k : K) → Some k ≡ slice_get ks i → (v : V) × (slice_get es i ≡ Some (k, v))
-      rank_entry k e = entry_from_key es i k (ap (λ js. slice_get js i) (sym of-entries) ∙ sym e)
+      rank_entry k e = entry_from_key es i k (ap (λ js. slice_get js i) (sym of_entries) ∙ sym e)
 
       pub rank_found : (k : K) (v : V) → Some k ≡ slice_get ks i → Some v ≡ lookup order k es → Some (k, v) ≡ slice_get es i
       rank_found k v e l =

@@ -2,7 +2,7 @@
 use Rattle.std.specs.Prelude.{◌≡◌, ℕ, Bool, cond, List, [], ◌∷◌, Some, None, Option}
 use Rattle.std.specs.declared.cmp.Ordering.TheVariants.{Less, Equal, Greater}
 use Rattle.std.specs.declared.cmp.Ordering.{Ordering}
-use Rattle.key_list.specs.Keys.{is_equal, put_by}
+pub use Rattle.key_list.specs.Keys.{is_equal, put_by}
 
 module _ {K V : Type 0} (order : K → K → Ordering) where
   -- the value of a key, or none

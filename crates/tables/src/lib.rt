@@ -1,3 +1,5 @@
+#![tactic(auto)]
+
 // Tables: a roll with a value for each place.
 mod table;
 

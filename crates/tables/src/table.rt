@@ -28,7 +28,7 @@ impl<K: OrderedKey, V: Copy, R: Roll<K>> Table<K, V, R> {
     pub fn new(heap: Global, roll: R, filler: V) -> Result<Self, R>
         ensures made { MatchResult result (λ t. (t.roll ≡ roll) × (t.values.items ≡ replicate (length (R.Roll.places roll)) filler)) (λ back. back ≡ roll) }
         ensures sound { IfOk result (λ t. R.Roll.sound roll → Sound R.Roll t) }
-        ensures no_entries { IfOk result (λ t. vacant (R.Roll.places roll) ≡ true → entries R.Roll K.OrderedKey t ≡ []) }
+        ensures no_entries { IfOk result (λ t. vacant (R.Roll.places roll) ≡ true → entries R.Roll K.OrderedKey.own t ≡ []) }
     {
         let mut values = Vec::new(heap);
         for _place in 0..roll.size() {
@@ -108,7 +108,7 @@ impl<K: OrderedKey, V: Copy, R: Roll<K>> Table<K, V, R> {
 
     // The value of a key, or none.
     pub fn get(&self, key: &K) -> Option<V>
-        ensures { Sound R.Roll self.now → result ≡ lookup K.OrderedKey.order key.now (entries R.Roll K.OrderedKey self.now) }
+        ensures { Sound R.Roll self.now → result ≡ lookup K.OrderedKey.order key.now (entries R.Roll K.OrderedKey.own self.now) }
     {
         let place = self.place(key)?;
         let value = self.values.get(place)?;
@@ -117,7 +117,7 @@ impl<K: OrderedKey, V: Copy, R: Roll<K>> Table<K, V, R> {
 
     // How many keys there are.
     pub fn count(&self) -> usize
-        ensures { Sound R.Roll self.now → result ≡ length (entries R.Roll K.OrderedKey self.now) }
+        ensures { Sound R.Roll self.now → result ≡ length (entries R.Roll K.OrderedKey.own self.now) }
     {
         let mut count = 0;
         for place in 0..self.size() {
@@ -130,7 +130,7 @@ impl<K: OrderedKey, V: Copy, R: Roll<K>> Table<K, V, R> {
 
     // The keys in ascending order.
     pub fn keys(&self) -> KeyList<K>
-        ensures { Sound R.Roll self.now → keys_in result ≡ keys_of (entries R.Roll K.OrderedKey self.now) }
+        ensures { Sound R.Roll self.now → keys_in result ≡ keys_of (entries R.Roll K.OrderedKey.own self.now) }
     {
         let mut line = KeyList::new();
         for place in (0..self.size()).rev() {
@@ -144,7 +144,7 @@ impl<K: OrderedKey, V: Copy, R: Roll<K>> Table<K, V, R> {
     // The key and the value with a rank in the ascending order of the keys, which are given; none past the
     // last.
     pub fn entry(&self, keys: &KeyList<K>, rank: usize) -> Option<(K, V)>
-        ensures { Sound R.Roll self.now → keys_in keys.now ≡ keys_of (entries R.Roll K.OrderedKey self.now) → result ≡ slice_get (entries R.Roll K.OrderedKey self.now) rank }
+        ensures { Sound R.Roll self.now → keys_in keys.now ≡ keys_of (entries R.Roll K.OrderedKey.own self.now) → result ≡ slice_get (entries R.Roll K.OrderedKey.own self.now) rank }
     {
         let key = keys.key_at(rank)?;
         let value = self.get(&key)?;
@@ -153,7 +153,7 @@ impl<K: OrderedKey, V: Copy, R: Roll<K>> Table<K, V, R> {
 
     // Writes the value at a place.
     pub fn write(&mut self, place: usize, value: V)
-        ensures { Sound R.Roll self.old → Written R.Roll K.OrderedKey self.old self.new place value }
+        ensures { Sound R.Roll self.old → Written R.Roll K.OrderedKey.own self.old self.new place value }
     {
         self.put(place, value);
     }
@@ -161,7 +161,7 @@ impl<K: OrderedKey, V: Copy, R: Roll<K>> Table<K, V, R> {
     // Gives a key a place if it has none, and writes its value there.
     pub fn enter(&mut self, key: K, value: V) -> Result<usize, RollFault>
         ensures stays_sound { Sound R.Roll self.old → Sound R.Roll self.new }
-        ensures entered { Sound R.Roll self.old → EnterAnswer R.Roll K.OrderedKey self.old self.new key value result }
+        ensures entered { Sound R.Roll self.old → EnterAnswer R.Roll K.OrderedKey.own self.old self.new key value result }
     {
         let place = self.roll.enter(key)?;
         self.put(place, value);
@@ -170,7 +170,7 @@ impl<K: OrderedKey, V: Copy, R: Roll<K>> Table<K, V, R> {
 
     // Empties a place, if it has a key.
     pub fn remove(&mut self, place: usize)
-        ensures { Sound R.Roll self.old → Removed R.Roll K.OrderedKey self.old self.new place }
+        ensures { Sound R.Roll self.old → Removed R.Roll K.OrderedKey.own self.old self.new place }
     {
         let _ = self.roll.strike(place);
     }

@@ -1,3 +1,5 @@
+#![tactic(auto)]
+
 // What a call about one peer makes of that peer's record.
 mod turn;
 mod turns;

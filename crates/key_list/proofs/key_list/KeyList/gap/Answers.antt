@@ -4,9 +4,9 @@ use Rattle.key_list.proofs.Puts.{goes_past, goes_last, goes_before, stays, put_m
 use Rattle.key_list.proofs.Rows.{few-keys}
 use Rattle.key_list.proofs.key_list.KeyList.gap.Goals as goal
 
-pub returns-in-default : goal.returns-in-default
-returns-in-default g c =
-    goes_past g.K.OrderedKey.order c.args.key.now (keys_in c.args.self.now) c.loop-index.index c.loop-index.invariant (omega arith) c.in-default.ensures
+pub returns-in_default : goal.returns-in_default
+returns-in_default g c =
+    goes_past g.K.OrderedKey.order c.args.key.now (keys_in c.args.self.now) c.loop-index.index c.loop-index.invariant (omega arith) c.in_default.ensures
 
 pub returns-in-Less : goal.returns-in-Less
 returns-in-Less g c =

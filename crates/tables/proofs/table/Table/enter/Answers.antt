@@ -11,18 +11,18 @@ returns g c =
     let t = c.put.new.self in
     let ps = g.R.Roll.places s.roll in
     let vs = s.values.items in
-    let p = c.in-ok-place.place in
+    let p = c.in_ok-place.place in
     let key = c.args.key in
     let v = c.args.value in
     let roll = c.put.ensures.same_roll in
     let values = c.put.ensures.values in
-    let took = λ (h : g.R.Roll.sound s.roll). place_of ps (g.R.Roll.places c.enter.new.self) key p (c.in-ok-place.ensures.entered h) in
+    let took = λ (h : g.R.Roll.sound s.roll). place_of ps (g.R.Roll.places c.enter.new.self) key p (c.in_ok-place.ensures.entered h) in
     let places = λ (h : g.R.Roll.sound s.roll). ap g.R.Roll.places roll ∙ (took h).now_places in
     record {
       stays_sound =
           λ sound.
           record {
-            roll_sound = subst g.R.Roll.sound (sym roll) (c.in-ok-place.ensures.stays_sound sound.roll_sound);
+            roll_sound = subst g.R.Roll.sound (sym roll) (c.in_ok-place.ensures.stays_sound sound.roll_sound);
             long = ap length values ∙ length-set vs p v ∙ sound.long ∙ sym (ap length (places sound.roll_sound) ∙ length-set ps p (Some key));
           };
       entered =

@@ -8,7 +8,7 @@ returns-in-Some g c =
 
 pub loop-place-preserved : goal.loop-place-preserved
 loop-place-preserved g c =
-    sym (vacant_more (g.R.Roll.places c.args.roll.now) c.loop-place.place (omega arith) c.in-default.ensures) ∙ c.loop-place.invariant
+    sym (vacant_more (g.R.Roll.places c.args.roll.now) c.loop-place.place (omega arith) c.in_default.ensures) ∙ c.loop-place.invariant
 
 pub returns : goal.returns
 returns g c = sym (vacant_all (g.R.Roll.places c.args.roll.now) c.loop-place.place (omega arith)) ∙ c.loop-place.invariant

@@ -11,7 +11,7 @@ loop-place-init g c sound =
 pub loop-place-preserved : goal.loop-place-preserved
 loop-place-preserved g c sound =
     let s = c.args.self.now in
-    keys-down_none g.K.OrderedKey.order (g.R.Roll.places s.roll) s.values.items c.loop-place.place (keys_in c.loop-place.line) sound.long (omega arith) (omega arith) (c.loop-place.invariant sound) c.in-default.ensures
+    keys-down_none g.K.OrderedKey.order (g.R.Roll.places s.roll) s.values.items c.loop-place.place (keys_in c.loop-place.line) sound.long (omega arith) (omega arith) (c.loop-place.invariant sound) c.in_default.ensures
 
 pub loop-place-preserved-in-Some : goal.loop-place-preserved-in-Some
 loop-place-preserved-in-Some g c sound =
