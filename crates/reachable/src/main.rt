@@ -1,3 +1,5 @@
+#![tactic(auto)]
+
 // Says of each line whether it is an IPv4 address, an IPv6 address or a host, whether it is global or
 // well formed, and in which special-purpose block an address lies.
 mod names;

@@ -1,3 +1,5 @@
+#![tactic(auto)]
+
 // Finds and enters a second of both rolls at 64 places, for both kinds of key. With no argument it
 // does nothing; with one it takes that many rounds.
 use anyhow::anyhow;

@@ -1,3 +1,5 @@
+#![tactic(auto)]
+
 // Runs the same commands over a sorted and a hashed roll of seat numbers, side by side.
 mod answer;
 mod command;
@@ -44,7 +46,7 @@ impl Pair {
                 keys.push(key.number)?;
             }
         }
-        keys.sort();
+        keys.sort_unstable();
         Ok(keys)
     }
 

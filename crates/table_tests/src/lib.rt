@@ -1,3 +1,5 @@
+#![tactic(auto)]
+
 // Tables of cases: the keys against outside vectors, and both rolls at their smallest and largest sizes.
 #[cfg(test)]
 mod keys_table;

@@ -1,3 +1,5 @@
+#![tactic(auto)]
+
 // Tables of cases: times, hosts, bit vectors and bit sets at their limits, and the course of a record.
 #[cfg(test)]
 mod bit_sets_table;

@@ -2,13 +2,13 @@ use Rattle.std.proofs.Common.{sym, ◌∙◌, arith, below_more}
 use Rattle.rolls.proofs.Tables.{some_none, within}
 use Rattle.roll_demo.proofs.perform.all_in.Goals as goal
 
-pub loop-place-preserved-in-default : goal.loop-place-preserved-in-default
-loop-place-preserved-in-default g c sound =
-    below_more _ _ (c.loop-place.invariant sound) (λ k e absent. some_none k e (sym c.in-default.ensures))
+pub loop-place-preserved-in_default : goal.loop-place-preserved-in_default
+loop-place-preserved-in_default g c sound =
+    below_more _ _ (c.loop-place.invariant sound) (λ k e absent. some_none k e (sym c.in_default.ensures))
 
-pub returns-in-default-find : goal.returns-in-default-find
-returns-in-default-find g c sound =
-    (c.loop-place.place, c.in-Some.key, sym c.in-Some.ensures, c.in-default-find.ensures sound)
+pub returns-in_default-find : goal.returns-in_default-find
+returns-in_default-find g c sound =
+    (c.loop-place.place, c.in-Some.key, sym c.in-Some.ensures, c.in_default-find.ensures sound)
 
 pub loop-place-preserved : goal.loop-place-preserved
 loop-place-preserved g c sound = let f = c.in-Some-find.ensures sound in
