@@ -28,7 +28,7 @@ impl<K: OrderedKey, B: Roll<K>> Blocks<K, B> {
         ensures returned { MatchResult result (λ b. roll_of b ≡ roll) (λ back. back ≡ roll) }
         ensures same_places { IfOk result (λ b. places_of B.Roll b ≡ B.Roll.places roll) }
         ensures sound { IfOk result (λ b. B.Roll.sound roll → Sound B.Roll b) }
-        ensures no_entries { IfOk result (λ b. vacant (B.Roll.places roll) ≡ true → expiries_of B.Roll K.OrderedKey b ≡ []) }
+        ensures no_entries { IfOk result (λ b. vacant (B.Roll.places roll) ≡ true → expiries_of B.Roll K.OrderedKey.own b ≡ []) }
     {
         match Table::new(heap, roll, Moment { millis: 0 }) {
             Ok(expiries) => Ok(Blocks { expiries }),
@@ -53,22 +53,22 @@ impl<K: OrderedKey, B: Roll<K>> Blocks<K, B> {
 
     // When the block of a peer expires or has expired, or none where it has no entry.
     pub fn expiry(&self, key: &K) -> Option<Moment>
-        ensures { Sound B.Roll self.now → result ≡ lookup K.OrderedKey.order key.now (expiries_of B.Roll K.OrderedKey self.now) }
+        ensures { Sound B.Roll self.now → result ≡ lookup K.OrderedKey.order key.now (expiries_of B.Roll K.OrderedKey.own self.now) }
     {
         self.expiries.get(key)
     }
 
     // Whether a peer is blocked at a moment.
     pub fn is_blocked(&self, at: Moment, key: &K) -> bool
-        ensures { Sound B.Roll self.now → result ≡ is_blocked at (lookup K.OrderedKey.order key.now (expiries_of B.Roll K.OrderedKey self.now)) }
+        ensures { Sound B.Roll self.now → result ≡ is_blocked at (lookup K.OrderedKey.order key.now (expiries_of B.Roll K.OrderedKey.own self.now)) }
     {
         is_blocked(at, self.expiry(key))
     }
 
     // Writes the expiry of a peer's block, over an entry that it has or in an empty place.
     pub fn block(&mut self, key: K, expiry: Moment) -> Result<(), BlocksFull>
-        ensures answered { Sound B.Roll self.old → BlockAnswer B.Roll K.OrderedKey self.old self.new key expiry result }
-        ensures fits { Sound B.Roll self.old → is_ok result ≡ (is_some (lookup K.OrderedKey.order key (expiries_of B.Roll K.OrderedKey self.old)) || nat_lt (length (expiries_of B.Roll K.OrderedKey self.old)) (length (places_of B.Roll self.old))) }
+        ensures answered { Sound B.Roll self.old → BlockAnswer B.Roll K.OrderedKey.own self.old self.new key expiry result }
+        ensures fits { Sound B.Roll self.old → is_ok result ≡ (is_some (lookup K.OrderedKey.order key (expiries_of B.Roll K.OrderedKey.own self.old)) || nat_lt (length (expiries_of B.Roll K.OrderedKey.own self.old)) (length (places_of B.Roll self.old))) }
     {
         self.enter(key, expiry)?;
         Ok(())
@@ -77,8 +77,8 @@ impl<K: OrderedKey, B: Roll<K>> Blocks<K, B> {
     // Writes an expiry at the place of a key, or at an empty one, and answers the place.
     fn enter(&mut self, key: K, expiry: Moment) -> Result<usize, RollFault>
         ensures stays_sound { Sound B.Roll self.old → Sound B.Roll self.new }
-        ensures entered { Sound B.Roll self.old → EnterAnswer B.Roll K.OrderedKey self.old.expiries self.new.expiries key expiry result }
-        ensures fits { Sound B.Roll self.old → is_ok result ≡ (is_some (lookup K.OrderedKey.order key (expiries_of B.Roll K.OrderedKey self.old)) || nat_lt (length (expiries_of B.Roll K.OrderedKey self.old)) (length (places_of B.Roll self.old))) }
+        ensures entered { Sound B.Roll self.old → EnterAnswer B.Roll K.OrderedKey.own self.old.expiries self.new.expiries key expiry result }
+        ensures fits { Sound B.Roll self.old → is_ok result ≡ (is_some (lookup K.OrderedKey.order key (expiries_of B.Roll K.OrderedKey.own self.old)) || nat_lt (length (expiries_of B.Roll K.OrderedKey.own self.old)) (length (places_of B.Roll self.old))) }
     {
         self.expiries.enter(key, expiry)
     }

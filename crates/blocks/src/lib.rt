@@ -1,3 +1,5 @@
+#![tactic(auto)]
+
 // The peers that are blocked, and until when.
 mod blocks;
 mod full;

@@ -1,1 +1,3 @@
+#![tactic(auto)]
+
 // What tracking a set does to the records: lemmas only, no code.

@@ -1,6 +1,6 @@
 -- The law holds at a start and after every call.
 use Rattle.std.proofs.Common.{◌≡◌, ℕ, zero, suc, ◌+◌, ◌≤◌, Bool, true, false, cond, not, ◌&&◌, ◌||◌, ltb, List, [], ◌∷◌, take, is_some, Some, None, Option, Ordering, sym, refl, ap, ◌∙◌, subst}
-use Rattle.std.specs.List.{AllByRecursion as All}
+use Rattle.std.specs.List.{AllByRecursion}
 use Rattle.std.proofs.lemmas.Bool.{both_ways, cond-true, or_parts}
 use Rattle.keys.specs.Order.{Lawful}
 use Rattle.record.specs.Cases.{is_inert}
@@ -67,7 +67,7 @@ module _ {K : Type 0} (order : K → K → Ordering) (lawful : Lawful order) (st
         members_recorded = λ k. recorded-tied (is_own order start k) (values order start h k) (lookup order k s.records) (b.follows.tied k);
         primary_counted = λ k r e. primary-tied (is_own order start k) (values order start h k) r (subst (Tied (is_own order start k) (values order start h k)) e (b.follows.tied k));
         secondary_counted = λ k r e. secondary-tied (is_own order start k) (values order start h k) r (subst (Tied (is_own order start k) (values order start h k)) e (b.follows.tied k));
-        bits_agree = each_from_bits order lawful (wants order start (values order start h)) s.sets (subst (All (Proper order)) (sym b.follows.sets_so) b.follows.proper) b.follows.bits;
+        bits_agree = each_from_bits order lawful (wants order start (values order start h)) s.sets (subst (AllByRecursion (Proper order)) (sym b.follows.sets_so) b.follows.proper) b.follows.bits;
         links_named = b.links;
       }
 
@@ -135,7 +135,7 @@ module _ {K : Type 0} (order : K → K → Ordering) (lawful : Lawful order) (st
                 primaries_so = λ k. refl;
                 secondaries_so = λ k. refl;
                 sets_so = b.sets_agree ∙ sym start-sets;
-                proper = subst (All (Proper order)) (sym start-sets) b.proper;
+                proper = subst (AllByRecursion (Proper order)) (sym start-sets) b.proper;
                 bits = bits_from_each order lawful (wants order start (values order start [])) s.sets b.bits_agree;
               };
           balance = λ k. refl;

@@ -1,6 +1,6 @@
 -- The bits of primaries: that each says whether information is wanted, and what marking a key does to that.
 use Rattle.std.proofs.Common.{◌≡◌, ℕ, ◌<◌, Bool, true, false, cond, not, List, [], ◌∷◌, Some, Ordering, sym, refl, ap, ◌∙◌, subst, ⊎_elim, arith}
-use Rattle.std.specs.List.{AllByRecursion as All}
+use Rattle.std.specs.List.{AllByRecursion}
 use Rattle.std.proofs.lemmas.Bool.{cond-true, cond-false, or_left, or_right}
 use Rattle.keys.specs.Order.{Lawful, ascending}
 use Rattle.keys.specs.Orders.{never}
@@ -21,12 +21,12 @@ some_more false n h = h
 
 -- each key's bit is set exactly when its information is not wanted
 abbrev pub EachBit : {K : Type 0} → (K → Bool) → List (K × Bool) → Type 0
-EachBit want = All (λ m. m.1 ≡ not (want m.0))
+EachBit want = AllByRecursion (λ m. m.1 ≡ not (want m.0))
 
 module _ {K : Type 0} (order : K → K → Ordering) where
   -- in each set a primary's bit is set exactly when its information is not wanted
   abbrev pub Bits : (K → Bool) → List (PeerSet K) → Type 0
-  Bits want = All (λ set. (k : K) (b : Bool) → lookup order k set.primary ≡ Some b → b ≡ not (want k))
+  Bits want = AllByRecursion (λ set. (k : K) (b : Bool) → lookup order k set.primary ≡ Some b → b ≡ not (want k))
 
   -- a key with a bit is a primary
   pub has-lookup : (k : K) (b : Bool) (ms : List (K × Bool)) → lookup order k ms ≡ Some b → has order k (primaries ms) ≡ true
@@ -119,7 +119,7 @@ module _ {K : Type 0} (order : K → K → Ordering) (lawful : Lawful order) whe
 
   -- the same said of every primary with its bit
 
-  pub bits_from_each : (want : K → Bool) (sets : List (PeerSet K)) → All (λ s. EachBit want s.primary) sets → Bits order want sets
+  pub bits_from_each : (want : K → Bool) (sets : List (PeerSet K)) → AllByRecursion (λ s. EachBit want s.primary) sets → Bits order want sets
   bits_from_each want [] h = tt
   bits_from_each want (s ∷ sets) h = (λ k b e. found k b s.primary h.0 e, bits_from_each want sets h.1)
     where
@@ -147,6 +147,6 @@ module _ {K : Type 0} (order : K → K → Ordering) (lawful : Lawful order) whe
           (unequal order lawful m.0 k (λ p. never (let f = first_once order lawful m.0 (primaries ms) a in let g = has-lookup order k b ms e in let q = ap (λ x. has order x (primaries ms)) p in cc)))
           ∙ e
 
-  pub each_from_bits : (want : K → Bool) (sets : List (PeerSet K)) → All (Proper order) (bare sets) → Bits order want sets → All (λ s. EachBit want s.primary) sets
+  pub each_from_bits : (want : K → Bool) (sets : List (PeerSet K)) → AllByRecursion (Proper order) (bare sets) → Bits order want sets → AllByRecursion (λ s. EachBit want s.primary) sets
   each_from_bits want [] p h = tt
   each_from_bits want (s ∷ sets) p h = (each_of want s.primary p.0.primaries_ascend h.0, each_from_bits want sets p.1 h.1)

@@ -1,7 +1,7 @@
 -- What ties a whole state to what a history says of every peer and of the sets held, and how writing one record keeps it.
 use Rattle.std.proofs.Common.{◌≡◌, ℕ, ◌+◌, ◌^◌, ◌<◌, Bool, true, false, cond, not, List, Some, None, Ordering, sym, refl, ap, ◌∙◌, subst, ⊎_elim, arith}
 use mathlib.Core.Path.{fun_ext}
-use Rattle.std.specs.List.{AllByRecursion as All}
+use Rattle.std.specs.List.{AllByRecursion}
 use Rattle.std.proofs.lemmas.Bool.{both_ways}
 use Rattle.keys.specs.Order.{Lawful}
 use Rattle.record.specs.Records.{is_myself, wanted, wanted_of}
@@ -66,7 +66,7 @@ module _ {K : Type 0} (order : K → K → Ordering) (start : Start K) where
     pub primaries_so : (k : K) → (vals k).primary ≡ primary_count order k sets
     pub secondaries_so : (k : K) → (vals k).secondary ≡ secondary_count order k sets
     pub sets_so : bare s.sets ≡ sets
-    pub proper : All (Proper order) sets
+    pub proper : AllByRecursion (Proper order) sets
     pub bits : Bits order (wants vals) s.sets
 
   pub sound_same : (vals vals' : K → Values K) (sets : List (Held K)) (s : State K) → ((k : K) → vals' k ≡ vals k) → Sound vals sets s → Sound vals' sets s

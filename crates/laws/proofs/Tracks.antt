@@ -1,6 +1,6 @@
 -- A new set, and the oldest that leaves, keep a state tied to what the history says.
 use Rattle.std.proofs.Common.{◌≡◌, ℕ, ◌<◌, Bool, true, false, not, ◌&&◌, List, [], ◌∷◌, ◌++◌, length, Some, Ordering, unwrap_or, sym, refl, ap, ◌∙◌, subst, arith}
-use Rattle.std.specs.List.{AllByRecursion as All}
+use Rattle.std.specs.List.{AllByRecursion}
 use Rattle.std.proofs.ByRecursion.{All-push}
 use Rattle.std.proofs.lemmas.Bool.{cond-true, cond-false, and_right}
 use Rattle.keys.specs.Order.{Lawful, ascending}
@@ -122,8 +122,8 @@ module _ {K : Type 0} (order : K → K → Ordering) (lawful : Lawful order) (st
     sets_there : sets ≡ bare (oldest ∷ rest)
     sets_there = sym h.sets_so ∙ ap bare holds
 
-    all_proper : All (Proper order) (bare (oldest ∷ rest))
-    all_proper = subst (All (Proper order)) sets_there h.proper
+    all_proper : AllByRecursion (Proper order) (bare (oldest ∷ rest))
+    all_proper = subst (AllByRecursion (Proper order)) sets_there h.proper
 
     pub left_primary_so : (k : K) → (vals k).primary ≡ one_more (has order k (primaries oldest.primary)) (primary_count order k (bare rest))
     left_primary_so k = h.primaries_so k ∙ ap (primary_count order k) sets_there

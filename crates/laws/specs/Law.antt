@@ -1,7 +1,7 @@
 -- What holds of a directory's own tables at the start and after every call.
 use Rattle.std.specs.Prelude.{◌≡◌, ℕ, ◌+◌, true, cond, not, ◌&&◌, List, [], ◌∷◌, is_some, Some, None, Option}
 use Rattle.std.specs.declared.cmp.Ordering.{Ordering}
-use Rattle.std.specs.List.{AllByRecursion as All}
+use Rattle.std.specs.List.{AllByRecursion}
 use Rattle.keys.specs.Order.{ascending}
 use Rattle.record.specs.Cases.{is_inert}
 use Rattle.record.specs.declared.record.Record.{Record}
@@ -25,7 +25,7 @@ module _ {K : Type 0} where
 module _ {K : Type 0} (order : K → K → Ordering) (start : Start K) where
   -- in each set a primary's bit is set exactly when its information is not wanted
   abbrev pub BitsAgree : List (Event K) → List (PeerSet K) → Type 0
-  BitsAgree h = All (λ set. All (λ m. m.1 ≡ not (is_wanted order start m.0 h)) set.primary)
+  BitsAgree h = AllByRecursion (λ set. AllByRecursion (λ m. m.1 ≡ not (is_wanted order start m.0 h)) set.primary)
 
   -- An accepted track, if it is the newest event, names in key order and once each exactly the members of the set that leaves, if
   -- one does, who have an open reservation and no seat left.

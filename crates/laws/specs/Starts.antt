@@ -1,7 +1,7 @@
 -- The states in which a directory may start, and the histories that lead on from them.
 use Rattle.std.specs.Prelude.{◌≡◌, ℕ, ◌≤◌, min, true, false, ◌||◌, List, [], ◌∷◌, length, is_some, Some, None, Option}
 use Rattle.std.specs.declared.cmp.Ordering.{Ordering}
-use Rattle.std.specs.List.{AllByRecursion as All}
+use Rattle.std.specs.List.{AllByRecursion}
 use Rattle.keys.specs.Order.{ascending}
 use Rattle.types.specs.declared.info.Info.{Info}
 use Rattle.types.specs.declared.ingress.Ingress.{Ingress}
@@ -69,7 +69,7 @@ module _ {K : Type 0} (order : K → K → Ordering) where
       pub some_held : 1 ≤ start.config.max_sets
       pub few_held : start.config.max_sets ≤ 8
       pub within : length start.sets ≤ start.config.max_sets
-      pub proper : All Proper start.sets
+      pub proper : AllByRecursion Proper start.sets
       pub ordered : Ascending order s.records
       pub recorded : (k : K) → First k (lookup order k s.records)
       pub sets_agree : bare s.sets ≡ start.sets

@@ -1,3 +1,5 @@
+#![tactic(auto)]
+
 // The sets of peers that a directory holds, oldest first.
 mod in_order;
 mod peer_set;

@@ -1,3 +1,5 @@
+#![tactic(auto)]
+
 // The records of all peers, in a table, and how calls change them.
 mod choice;
 mod full;

@@ -1,3 +1,5 @@
+#![tactic(auto)]
+
 // The directory of a discovery tracker: which peers there are, where to reach them, which links to close.
 mod directory;
 mod ingress;

@@ -23,7 +23,7 @@ fn is_expired(at: Moment, expiry: Moment) -> bool
 impl<K: OrderedKey, B: Roll<K>> Blocks<K, B> {
     // Removes the blocks that have expired, and answers whether there were any.
     pub fn unblock_expired(&mut self, at: Moment) -> bool
-        ensures { Sound B.Roll self.old → Unblocked B.Roll K.OrderedKey self.old self.new at result }
+        ensures { Sound B.Roll self.old → Unblocked B.Roll K.OrderedKey.own self.old self.new at result }
     {
         let mut any = false;
         for place in 0..self.places() {
@@ -34,7 +34,7 @@ impl<K: OrderedKey, B: Roll<K>> Blocks<K, B> {
 
     // The keys of the peers that are blocked, in their order.
     pub fn peers(&self, at: Moment) -> KeyList<K>
-        ensures { Sound B.Roll self.now → keys_in result ≡ blocked_keys at (expiries_of B.Roll K.OrderedKey self.now) }
+        ensures { Sound B.Roll self.now → keys_in result ≡ blocked_keys at (expiries_of B.Roll K.OrderedKey.own self.now) }
     {
         let keys = self.expiries.keys();
         let mut found = KeyList::new();
@@ -46,7 +46,7 @@ impl<K: OrderedKey, B: Roll<K>> Blocks<K, B> {
 
     // The earliest expiry, or none where there is no entry.
     pub fn earliest(&self) -> Option<Moment>
-        ensures { Sound B.Roll self.now → result ≡ first_expiry (expiries_of B.Roll K.OrderedKey self.now) None }
+        ensures { Sound B.Roll self.now → result ≡ first_expiry (expiries_of B.Roll K.OrderedKey.own self.now) None }
     {
         let mut found = None;
         for place in 0..self.places() {
@@ -57,7 +57,7 @@ impl<K: OrderedKey, B: Roll<K>> Blocks<K, B> {
 
     // Removes the block at a place if it has expired, and answers whether any has up to there.
     fn lift_at(&mut self, at: Moment, place: usize, any: bool) -> bool
-        ensures { LiftedMore B.Roll K.OrderedKey self.old self.new at place any result }
+        ensures { LiftedMore B.Roll K.OrderedKey.own self.old self.new at place any result }
     {
         let Some(expiry) = self.expiry_at(place) else {
             return any;
@@ -71,7 +71,7 @@ impl<K: OrderedKey, B: Roll<K>> Blocks<K, B> {
 
     // The earliest of what was found and the expiry at a place.
     fn earliest_at(&self, place: usize, found: Option<Moment>) -> Option<Moment>
-        ensures { Sound B.Roll self.now → first_from B.Roll K.OrderedKey self.now (place + 1) result ≡ first_from B.Roll K.OrderedKey self.now place found }
+        ensures { Sound B.Roll self.now → first_from B.Roll K.OrderedKey.own self.now (place + 1) result ≡ first_from B.Roll K.OrderedKey.own self.now place found }
     {
         let Some(expiry) = self.expiry_at(place) else {
             return found;
@@ -81,7 +81,7 @@ impl<K: OrderedKey, B: Roll<K>> Blocks<K, B> {
 
     // The expiry at a place, or none where it is empty.
     fn expiry_at(&self, place: usize) -> Option<Moment>
-        ensures { Sound B.Roll self.now → Standing B.Roll K.OrderedKey self.now place result }
+        ensures { Sound B.Roll self.now → Standing B.Roll K.OrderedKey.own self.now place result }
     {
         let key = self.expiries.key_at(place)?;
         self.expiry(&key)
@@ -89,7 +89,7 @@ impl<K: OrderedKey, B: Roll<K>> Blocks<K, B> {
 
     // Puts the key with a rank behind those that were found, if it is blocked.
     fn find_at(&self, at: Moment, keys: &KeyList<K>, rank: usize, found: &mut KeyList<K>)
-        ensures { Sound B.Roll self.now → keys_in keys.now ≡ keys_of (expiries_of B.Roll K.OrderedKey self.now) → FoundBelow B.Roll K.OrderedKey self.now at rank (keys_in found.old) → FoundBelow B.Roll K.OrderedKey self.now at (rank + 1) (keys_in found.new) }
+        ensures { Sound B.Roll self.now → keys_in keys.now ≡ keys_of (expiries_of B.Roll K.OrderedKey.own self.now) → FoundBelow B.Roll K.OrderedKey.own self.now at rank (keys_in found.old) → FoundBelow B.Roll K.OrderedKey.own self.now at (rank + 1) (keys_in found.new) }
     {
         let Some(entry) = self.expiries.entry(keys, rank) else {
             return;

@@ -10,7 +10,7 @@ use rolls::Roll;
 impl<K: OrderedKey, R: Roll<K>> Records<K, R> {
     // Whether the information of a peer is known: it is not wanted. That of a peer without a record is.
     pub fn is_known(&self, key: &K, limit: u64) -> bool
-        ensures { Sound R.Roll self.now → result ≡ not (wanted limit (known K.OrderedKey.order (records_of R.Roll K.OrderedKey self.now) key.now)) }
+        ensures { Sound R.Roll self.now → result ≡ not (wanted limit (known K.OrderedKey.order (records_of R.Roll K.OrderedKey.own self.now) key.now)) }
     {
         match self.get(key) {
             Some(record) => !record.want(limit),

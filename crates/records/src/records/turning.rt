@@ -14,14 +14,14 @@ use types::Info;
 impl<K: OrderedKey, R: Roll<K>> Records<K, R> {
     // The record of a peer, or none.
     pub fn get(&self, key: &K) -> Option<Record<K>>
-        ensures { Sound R.Roll self.now → result ≡ lookup K.OrderedKey.order key.now (records_of R.Roll K.OrderedKey self.now) }
+        ensures { Sound R.Roll self.now → result ≡ lookup K.OrderedKey.order key.now (records_of R.Roll K.OrderedKey.own self.now) }
     {
         self.table.get(key)
     }
 
     // Writes the record of a peer, if it has one.
     pub fn write(&mut self, key: &K, record: Record<K>)
-        ensures { Sound R.Roll self.old → is_some (lookup K.OrderedKey.order key.now (records_of R.Roll K.OrderedKey self.old)) ≡ true → Written R.Roll K.OrderedKey self.old self.new key.now «record» }
+        ensures { Sound R.Roll self.old → is_some (lookup K.OrderedKey.order key.now (records_of R.Roll K.OrderedKey.own self.old)) ≡ true → Written R.Roll K.OrderedKey.own self.old self.new key.now «record» }
     {
         let Some(place) = self.find(key) else {
             return;
@@ -31,7 +31,7 @@ impl<K: OrderedKey, R: Roll<K>> Records<K, R> {
 
     // Writes or erases the record of a peer, if it has one.
     pub fn settle(&mut self, key: &K, turn: Turn<K>)
-        ensures { Sound R.Roll self.old → is_some (lookup K.OrderedKey.order key.now (records_of R.Roll K.OrderedKey self.old)) ≡ true → Settled R.Roll K.OrderedKey self.old self.new key.now (taken turn) }
+        ensures { Sound R.Roll self.old → is_some (lookup K.OrderedKey.order key.now (records_of R.Roll K.OrderedKey.own self.old)) ≡ true → Settled R.Roll K.OrderedKey.own self.old self.new key.now (taken turn) }
     {
         let Some(place) = self.find(key) else {
             return;
@@ -44,21 +44,21 @@ impl<K: OrderedKey, R: Roll<K>> Records<K, R> {
 
     // The place of the record of a peer, or none.
     pub(super) fn find(&self, key: &K) -> Option<usize>
-        ensures { Sound R.Roll self.now → Located R.Roll K.OrderedKey self.now key.now result }
+        ensures { Sound R.Roll self.now → Located R.Roll K.OrderedKey.own self.now key.now result }
     {
         self.table.place(key)
     }
 
     // The record at the place of a peer.
     pub(super) fn at(&self, place: usize) -> Option<Record<K>>
-        ensures { (key : K) → Sound R.Roll self.now → key_at (places_of R.Roll self.now) place ≡ Some key → result ≡ lookup K.OrderedKey.order key (records_of R.Roll K.OrderedKey self.now) }
+        ensures { (key : K) → Sound R.Roll self.now → key_at (places_of R.Roll self.now) place ≡ Some key → result ≡ lookup K.OrderedKey.order key (records_of R.Roll K.OrderedKey.own self.now) }
     {
         self.table.value_at(place)
     }
 
     // Takes an info, if its peer has a record and it is news, and answers the record that it made.
     pub fn learn(&mut self, info: &Info<K>) -> Option<Record<K>>
-        ensures { Sound R.Roll self.old → Learnt R.Roll K.OrderedKey self.old self.new info.now result }
+        ensures { Sound R.Roll self.old → Learnt R.Roll K.OrderedKey.own self.old self.new info.now result }
     {
         let Some(place) = self.find(&info.public_key) else {
             return None;

@@ -24,10 +24,10 @@ impl<K: OrderedKey, R: Roll<K>, B: Roll<K>> Directory<K, R, B> {
     // Blocks a peer for the set length of time, whether it has a record or not. Refused with 18 if it is
     // blocked already, 19 if it is ourselves, 20 if it has no entry and there is no place for one.
     pub fn block(&mut self, at: Moment, key: &K) -> Result<(), Fault>
-        ensures performed { Sound K.OrderedKey R.Roll B.Roll self.old → Performed K.OrderedKey R.Roll B.Roll self.old self.new (Block at key.now) (done_or result) }
-        ensures refusal_changes_nothing { Sound K.OrderedKey R.Roll B.Roll self.old → is_err result ≡ true → Unchanged K.OrderedKey R.Roll B.Roll self.old self.new }
-        ensures at_most_one_place_filled { Sound K.OrderedKey R.Roll B.Roll self.old → OneBlock K.OrderedKey R.Roll B.Roll self.old self.new key.now }
-        ensures keeps_the_law { KeepsLaw K.OrderedKey R.Roll B.Roll self.old self.new (Block at key.now) (done_or result) }
+        ensures performed { Sound K.OrderedKey.own R.Roll B.Roll self.old → Performed K.OrderedKey.own R.Roll B.Roll self.old self.new (Block at key.now) (done_or result) }
+        ensures refusal_changes_nothing { Sound K.OrderedKey.own R.Roll B.Roll self.old → is_err result ≡ true → Unchanged K.OrderedKey.own R.Roll B.Roll self.old self.new }
+        ensures at_most_one_place_filled { Sound K.OrderedKey.own R.Roll B.Roll self.old → OneBlock K.OrderedKey.own R.Roll B.Roll self.old self.new key.now }
+        ensures keeps_the_law { KeepsLaw K.OrderedKey.own R.Roll B.Roll self.old self.new (Block at key.now) (done_or result) }
     {
         if self.blocks.is_blocked(at, key) {
             return Err(Fault::BlockedAlready);
@@ -42,9 +42,9 @@ impl<K: OrderedKey, R: Roll<K>, B: Roll<K>> Directory<K, R, B> {
 
     // Removes the blocks that expire at or before a moment, and answers whether there were any.
     pub fn unblock_expired(&mut self, at: Moment) -> bool
-        ensures performed { Sound K.OrderedKey R.Roll B.Roll self.old → Performed K.OrderedKey R.Roll B.Roll self.old self.new (UnblockExpired at) (Unblocked result) }
-        ensures places_only_emptied { Sound K.OrderedKey R.Roll B.Roll self.old → FewerBlocks K.OrderedKey R.Roll B.Roll self.old self.new }
-        ensures keeps_the_law { KeepsLaw K.OrderedKey R.Roll B.Roll self.old self.new (UnblockExpired at) (Unblocked result) }
+        ensures performed { Sound K.OrderedKey.own R.Roll B.Roll self.old → Performed K.OrderedKey.own R.Roll B.Roll self.old self.new (UnblockExpired at) (Unblocked result) }
+        ensures places_only_emptied { Sound K.OrderedKey.own R.Roll B.Roll self.old → FewerBlocks K.OrderedKey.own R.Roll B.Roll self.old self.new }
+        ensures keeps_the_law { KeepsLaw K.OrderedKey.own R.Roll B.Roll self.old self.new (UnblockExpired at) (Unblocked result) }
     {
         self.blocks.unblock_expired(at)
     }

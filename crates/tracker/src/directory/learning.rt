@@ -26,7 +26,7 @@ impl<K: OrderedKey, R: Roll<K>, B: Roll<K>> Directory<K, R, B> {
     // held. Answers 1 if it was taken, and 0 if it was passed over.
     fn learn(&mut self, info: &Info<K>) -> usize
         ensures few { result ≤ 1 }
-        ensures learnt { Sound K.OrderedKey R.Roll B.Roll self.old → LearntOne K.OrderedKey R.Roll B.Roll self.old self.new info.now result }
+        ensures learnt { Sound K.OrderedKey.own R.Roll B.Roll self.old → LearntOne K.OrderedKey.own R.Roll B.Roll self.old self.new info.now result }
     {
         let Some(learnt) = self.records.learn(info) else {
             return 0;
@@ -37,7 +37,7 @@ impl<K: OrderedKey, R: Roll<K>, B: Roll<K>> Directory<K, R, B> {
 
     // Takes the infos one after the other, and answers how many were taken.
     fn learn_all(&mut self, infos: &[Info<K>]) -> usize
-        ensures { Sound K.OrderedKey R.Roll B.Roll self.old → LearntAll K.OrderedKey R.Roll B.Roll self.old self.new infos.now [] result }
+        ensures { Sound K.OrderedKey.own R.Roll B.Roll self.old → LearntAll K.OrderedKey.own R.Roll B.Roll self.old self.new infos.now [] result }
     {
         let mut taken = 0;
         for info in infos {
@@ -49,10 +49,10 @@ impl<K: OrderedKey, R: Roll<K>, B: Roll<K>> Directory<K, R, B> {
     // Takes infos of peers, those that have a record and for which an info is news, and answers how
     // many were taken. Refused with 2 if the host of any is malformed.
     pub fn update_peers(&mut self, infos: &[Info<K>]) -> Result<usize, Fault>
-        ensures performed { Sound K.OrderedKey R.Roll B.Roll self.old → Performed K.OrderedKey R.Roll B.Roll self.old self.new (UpdatePeers infos.now) (taken_or result) }
-        ensures refusal_changes_nothing { is_err result ≡ true → Unchanged K.OrderedKey R.Roll B.Roll self.old self.new }
-        ensures places_stay { Sound K.OrderedKey R.Roll B.Roll self.old → SamePlaces K.OrderedKey R.Roll B.Roll self.old self.new }
-        ensures keeps_the_law { KeepsLaw K.OrderedKey R.Roll B.Roll self.old self.new (UpdatePeers infos.now) (taken_or result) }
+        ensures performed { Sound K.OrderedKey.own R.Roll B.Roll self.old → Performed K.OrderedKey.own R.Roll B.Roll self.old self.new (UpdatePeers infos.now) (taken_or result) }
+        ensures refusal_changes_nothing { is_err result ≡ true → Unchanged K.OrderedKey.own R.Roll B.Roll self.old self.new }
+        ensures places_stay { Sound K.OrderedKey.own R.Roll B.Roll self.old → SamePlaces K.OrderedKey.own R.Roll B.Roll self.old self.new }
+        ensures keeps_the_law { KeepsLaw K.OrderedKey.own R.Roll B.Roll self.old self.new (UpdatePeers infos.now) (taken_or result) }
     {
         if !are_well_formed(infos) {
             return Err(Fault::MalformedHost);

@@ -51,7 +51,7 @@ impl<K: OrderedKey, R: Roll<K>, B: Roll<K>> Directory<K, R, B> {
 
     // Sets the bit of each primary of a new set.
     fn mark(&self, set: &mut PeerSet<K>)
-        ensures { Sound K.OrderedKey R.Roll B.Roll self.now → Marked K.OrderedKey R.Roll B.Roll self.now (set_of set.old) (set_of set.new) }
+        ensures { Sound K.OrderedKey.own R.Roll B.Roll self.now → Marked K.OrderedKey.own R.Roll B.Roll self.now (set_of set.old) (set_of set.new) }
     {
         for i in 0..set.primary_len() {
             let Some(key) = set.primary_at(i) else {
@@ -64,7 +64,7 @@ impl<K: OrderedKey, R: Roll<K>, B: Roll<K>> Directory<K, R, B> {
     // The oldest set leaves: its members' counts go down, those whose links are to be closed are
     // named, and the records of those that nothing holds any more are deleted.
     fn drop_set(&mut self, oldest: &PeerSet<K>) -> KeyList<K>
-        ensures { Sound K.OrderedKey R.Roll B.Roll self.old → DroppedSet K.OrderedKey R.Roll B.Roll self.old self.new (set_of oldest.now) (keys_in result) }
+        ensures { Sound K.OrderedKey.own R.Roll B.Roll self.old → DroppedSet K.OrderedKey.own R.Roll B.Roll self.old self.new (set_of oldest.now) (keys_in result) }
     {
         self.records.leave(oldest);
         let named = self.records.to_close(oldest);
@@ -75,7 +75,7 @@ impl<K: OrderedKey, R: Roll<K>, B: Roll<K>> Directory<K, R, B> {
     // Makes a new set, unless it is refused: with 6, 7 or 8, or with 9 if it has more members than
     // there are places.
     fn make_set(&self, index: u64, primary: &[K], secondary: &[K]) -> Result<PeerSet<K>, Fault>
-        ensures { Sound K.OrderedKey R.Roll B.Roll self.now → SetAnswer K.OrderedKey R.Roll B.Roll self.now index primary.now secondary.now result }
+        ensures { Sound K.OrderedKey.own R.Roll B.Roll self.now → SetAnswer K.OrderedKey.own R.Roll B.Roll self.now index primary.now secondary.now result }
     {
         if let Some(fault) = self.early_refusal(index, primary, secondary) {
             return Err(fault);
@@ -89,7 +89,7 @@ impl<K: OrderedKey, R: Roll<K>, B: Roll<K>> Directory<K, R, B> {
     // Has the members of a new set join, and sets the bits of its primaries. Refused with 9 if there is
     // no room for the records of all of them.
     fn join_set(&mut self, set: &mut PeerSet<K>) -> Result<(), Fault>
-        ensures { Sound K.OrderedKey R.Roll B.Roll self.old → Proper K.OrderedKey.order (set_of set.old) → JoinSetAnswer K.OrderedKey R.Roll B.Roll self.old self.new (set_of set.old) (set_of set.new) result }
+        ensures { Sound K.OrderedKey.own R.Roll B.Roll self.old → Proper K.OrderedKey.order (set_of set.old) → JoinSetAnswer K.OrderedKey.own R.Roll B.Roll self.old self.new (set_of set.old) (set_of set.new) result }
     {
         self.records.join(set)?;
         self.mark(set);
@@ -99,7 +99,7 @@ impl<K: OrderedKey, R: Roll<K>, B: Roll<K>> Directory<K, R, B> {
     // Enters a new set, whose members have joined. If there are then too many, the oldest leaves, and
     // its members whose links are to be closed are named.
     fn enter_set(&mut self, set: PeerSet<K>) -> KeyList<K>
-        ensures { Sound K.OrderedKey R.Roll B.Roll self.old → EnteredSet K.OrderedKey R.Roll B.Roll self.old self.new (set_of set) (keys_in result) }
+        ensures { Sound K.OrderedKey.own R.Roll B.Roll self.old → EnteredSet K.OrderedKey.own R.Roll B.Roll self.old self.new (set_of set) (keys_in result) }
     {
         match self.sets.enter(set, self.config.max_sets) {
             Some(oldest) => self.drop_set(&oldest),
@@ -109,7 +109,7 @@ impl<K: OrderedKey, R: Roll<K>, B: Roll<K>> Directory<K, R, B> {
 
     // Makes a new set and has its members join, unless it is refused.
     fn admit(&mut self, index: u64, primary: &[K], secondary: &[K]) -> Result<PeerSet<K>, Fault>
-        ensures { Sound K.OrderedKey R.Roll B.Roll self.old → AdmitAnswer K.OrderedKey R.Roll B.Roll self.old self.new index primary.now secondary.now result }
+        ensures { Sound K.OrderedKey.own R.Roll B.Roll self.old → AdmitAnswer K.OrderedKey.own R.Roll B.Roll self.old self.new index primary.now secondary.now result }
     {
         let mut set = self.make_set(index, primary, secondary)?;
         self.join_set(&mut set)?;
@@ -118,7 +118,7 @@ impl<K: OrderedKey, R: Roll<K>, B: Roll<K>> Directory<K, R, B> {
 
     // Tracks a new set, and answers the keys of the links to close.
     fn track_set(&mut self, index: u64, primary: &[K], secondary: &[K]) -> Result<KeyList<K>, Fault>
-        ensures { Sound K.OrderedKey R.Roll B.Roll self.old → TrackAnswer K.OrderedKey R.Roll B.Roll self.old self.new index primary.now secondary.now result }
+        ensures { Sound K.OrderedKey.own R.Roll B.Roll self.old → TrackAnswer K.OrderedKey.own R.Roll B.Roll self.old self.new index primary.now secondary.now result }
     {
         match self.admit(index, primary, secondary) {
             Ok(set) => Ok(self.enter_set(set)),

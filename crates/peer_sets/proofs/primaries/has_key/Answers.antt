@@ -4,5 +4,5 @@ use Rattle.peer_sets.proofs.primaries.has_key.Goals as goal
 
 pub returns : goal.returns
 returns g c =
-    c.is-some.ensures
+    c.is_some.ensures
     ∙ primary_there g.K.OrderedKey.order c.args.key.now c.args.primary.now c.position.result c.position.ensures.value

@@ -13,15 +13,15 @@ loop-i-preserved g c =
     let k = c.in-Some.key in
     let i = c.loop-i.i in
     let short : length (keys_in c.loop-i.keys) < 64 =
-    omega (arith, ap length c.loop-i.invariant, length-take i ks, c.primary-len-i-end.ensures, c.loop-i-test.true, few-members c.args.self.now.primary) in
+    omega (arith, ap length c.loop-i.invariant, length-take i ks, c.primary_len-i-end.ensures, c.loop-i-test.true, few-members c.args.self.now.primary) in
     c.push_if.ensures.now_keys short ∙ ap (λ xs. xs ++ k ∷ []) c.loop-i.invariant ∙ sym (take_from_nth ks i k (sym c.in-Some.ensures))
 
-pub returns-in-default : goal.returns-in-default
-returns-in-default g c =
+pub returns-in_default : goal.returns-in_default
+returns-in_default g c =
     let ks = primaries (set_of c.args.self.now).primary in
-    c.loop-i.invariant ∙ take_all c.loop-i.i ks (past_from_nth ks c.loop-i.i (sym c.in-default.ensures))
+    c.loop-i.invariant ∙ take_all c.loop-i.i ks (past_from_nth ks c.loop-i.i (sym c.in_default.ensures))
 
 pub returns : goal.returns
 returns g c =
     let ks = primaries (set_of c.args.self.now).primary in
-    c.loop-i.invariant ∙ take_all c.loop-i.i ks (omega (arith, length-primaries (set_of c.args.self.now).primary, c.primary-len-i-end.ensures, c.loop-i-test.false))
+    c.loop-i.invariant ∙ take_all c.loop-i.i ks (omega (arith, length-primaries (set_of c.args.self.now).primary, c.primary_len-i-end.ensures, c.loop-i-test.false))

@@ -4,11 +4,11 @@ use Rattle.peer_sets.specs.Held.{set_of}
 use Rattle.peer_sets.proofs.Rows.{marked_more, marked_first}
 use Rattle.peer_sets.proofs.peer_sets.methods.mark_first.Goals as goal
 
-pub offset-bounds-sets-i : goal.offset-bounds-sets-i
-offset-bounds-sets-i g c = let h : c.loop-i.i < 9 = omega arith in search rules
+pub offset_bounds-sets-i : goal.offset_bounds-sets-i
+offset_bounds-sets-i g c = let h : c.loop-i.i < 9 = omega arith in search rules
 
-pub offset-bounds-sets-i-in-loop-i : goal.offset-bounds-sets-i-in-loop-i
-offset-bounds-sets-i-in-loop-i g c = let h : c.loop-i.i < 9 = omega arith in search rules
+pub offset_bounds-sets-i-in-loop-i : goal.offset_bounds-sets-i-in-loop-i
+offset_bounds-sets-i-in-loop-i g c = let h : c.loop-i.i < 9 = omega arith in search rules
 
 pub loop-i-preserved : goal.loop-i-preserved
 loop-i-preserved g c =

@@ -2,11 +2,11 @@ use Rattle.std.proofs.Common.{◌+◌, ◌<◌, ◌≤◌, ◌∙◌, arith, rul
 use Rattle.std.proofs.lemmas.List.{length-set}
 use Rattle.peer_sets.specs.Held.{set_of}
 use Rattle.peer_sets.proofs.Rows.{one_more, none_out, one_out, first_out}
-use Rattle.peer_sets.proofs.peer_sets.methods.put_behind.Goals.{else-count-lt-MOST-SETS-via-then-count-lt-MOST-SETS+else-count-most, else-count-lt-MOST-SETS-via-else-count-lt-MOST-SETS}
+use Rattle.peer_sets.proofs.peer_sets.methods.put_behind.Goals.{else-count-lt-MOST_SETS-via-then-count-lt-MOST_SETS+else-count-most, else-count-lt-MOST_SETS-via-else-count-lt-MOST_SETS}
 use Rattle.peer_sets.proofs.peer_sets.methods.put_behind.Goals as goal
 
-pub offset-bounds-sets-count : goal.offset-bounds-sets-count
-offset-bounds-sets-count g c = let h : c.args.count.now < 9 = omega arith in search rules
+pub offset_bounds-sets-count : goal.offset_bounds-sets-count
+offset_bounds-sets-count g c = let h : c.args.count.now < 9 = omega arith in search rules
 
 pub returns-then-count-most : goal.returns-then-count-most
 returns-then-count-most g c =
@@ -22,9 +22,9 @@ pub returns : goal.returns
 returns g c =
     let n = c.args.count.now in
     let over : c.args.most ≤ 8 → c.args.most ≤ n = λ h.
-    elim c.else-count-lt-MOST-SETS.branch [
-      | else-count-lt-MOST-SETS-via-then-count-lt-MOST-SETS+else-count-most w ↦ omega arith
-      | else-count-lt-MOST-SETS-via-else-count-lt-MOST-SETS w ↦ omega arith
+    elim c.else-count-lt-MOST_SETS.branch [
+      | else-count-lt-MOST_SETS-via-then-count-lt-MOST_SETS+else-count-most w ↦ omega arith
+      | else-count-lt-MOST_SETS-via-else-count-lt-MOST_SETS w ↦ omega arith
     ] in
     record {
       whole = c.take_first.ensures.whole;

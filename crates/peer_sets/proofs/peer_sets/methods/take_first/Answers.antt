@@ -2,11 +2,11 @@ use Rattle.std.proofs.Common.{◌+◌, ◌<◌, get_or, ap, ◌∙◌, arith, ru
 use Rattle.peer_sets.proofs.Rows.{moved_none, moved_more, moved_all}
 use Rattle.peer_sets.proofs.peer_sets.methods.take_first.Goals as goal
 
-pub offset-bounds-sets-i : goal.offset-bounds-sets-i
-offset-bounds-sets-i g c = let h : c.loop-i.i + 1 < 9 = omega arith in search rules
+pub offset_bounds-sets-i : goal.offset_bounds-sets-i
+offset_bounds-sets-i g c = let h : c.loop-i.i + 1 < 9 = omega arith in search rules
 
-pub offset-bounds-sets-i-in-loop-i : goal.offset-bounds-sets-i-in-loop-i
-offset-bounds-sets-i-in-loop-i g c = let h : c.loop-i.i < 9 = omega arith in search rules
+pub offset_bounds-sets-i-in-loop-i : goal.offset_bounds-sets-i-in-loop-i
+offset_bounds-sets-i-in-loop-i g c = let h : c.loop-i.i < 9 = omega arith in search rules
 
 pub loop-i-init : goal.loop-i-init
 loop-i-init g c = moved_none c.args.sets.now

@@ -20,11 +20,11 @@ loop-i-preserved g c = (
       (c.push_if.ensures.now_keys room ∙ ap (λ t. cond t (named ++ k ∷ []) named) c.is_chosen.ensures),
 )
 
-pub returns-in-default : goal.returns-in-default
-returns-in-default g c sound =
+pub returns-in_default : goal.returns-in_default
+returns-in_default g c sound =
     let es = records_of g.R.Roll g.K.OrderedKey c.args.self.now in
     chosen_all (λ k. is_chosen c.args.choice) es c.loop-i.i (keys_in c.loop-i.named) (c.loop-i.invariant.1 sound)
-    (past_from_nth es c.loop-i.i (sym (c.in-default.ensures sound (c.keys-keys.ensures sound))))
+    (past_from_nth es c.loop-i.i (sym (c.in_default.ensures sound (c.keys-keys.ensures sound))))
 
 pub returns : goal.returns
 returns g c sound =

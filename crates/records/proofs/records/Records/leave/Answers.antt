@@ -13,7 +13,7 @@ returns g c sound =
     let es = records_of g.R.Roll g.K.OrderedKey c.args.self.now in
     let set = set_of c.args.members.now in
     let first = c.lower_all.ensures sound in
-    let second = c.lower-all-2.ensures first.sound in
+    let second = c.lower_all-2.ensures first.sound in
     record {
       sound = second.sound;
       now_records =

@@ -11,10 +11,10 @@ loop-i-preserved g c sound =
     lowered_more g.K.OrderedKey g.R.Roll (lowered c.args.rank) (keys_in c.args.keys.now) c.args.self.now c.loop-i.self c.loop-i.i
     c.lower_one.new.self c.in-Some.key (sym c.in-Some.ensures) all (c.lower_one.ensures all.sound)
 
-pub returns-in-default : goal.returns-in-default
-returns-in-default g c sound =
+pub returns-in_default : goal.returns-in_default
+returns-in_default g c sound =
     lowered_all g.K.OrderedKey g.R.Roll (lowered c.args.rank) (keys_in c.args.keys.now) c.args.self.now c.loop-i.self c.loop-i.i
-    (past_from_nth (keys_in c.args.keys.now) c.loop-i.i (sym c.in-default.ensures)) (c.loop-i.invariant sound)
+    (past_from_nth (keys_in c.args.keys.now) c.loop-i.i (sym c.in_default.ensures)) (c.loop-i.invariant sound)
 
 pub returns : goal.returns
 returns g c sound =

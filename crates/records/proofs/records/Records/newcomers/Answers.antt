@@ -13,13 +13,13 @@ loop-i-preserved g c = (
       c.lacking-count.result c.in-Some.key (sym c.in-Some.ensures) (c.lacking-count.ensures.one sound) (c.loop-i.invariant.1 sound),
 )
 
-pub returns-in-default : goal.returns-in-default
-returns-in-default g c =
+pub returns-in_default : goal.returns-in_default
+returns-in_default g c =
     record {
       few = omega (arith, c.loop-i.invariant.0, few-keys c.args.keys.now, c.len-i-end.ensures, c.loop-i-test.true);
       all =
           λ sound. newcomers_all g.K.OrderedKey.order (keys_in c.args.keys.now) (records_of g.R.Roll g.K.OrderedKey c.args.self.now) c.loop-i.i c.loop-i.count
-          (past_from_nth (keys_in c.args.keys.now) c.loop-i.i (sym c.in-default.ensures)) (c.loop-i.invariant.1 sound);
+          (past_from_nth (keys_in c.args.keys.now) c.loop-i.i (sym c.in_default.ensures)) (c.loop-i.invariant.1 sound);
     }
 
 pub returns : goal.returns

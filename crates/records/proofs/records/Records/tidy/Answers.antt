@@ -17,11 +17,11 @@ loop-i-preserved g c sound =
     tidied_more g.K.OrderedKey g.R.Roll g.met.K.OrderedKey.lawful (set_of c.args.members.now) c.args.self.now c.loop-i.self c.loop-i.i all
     c.tidy_one.new.self k x.0 x.1 (c.tidy_one.ensures all.sound)
 
-pub returns-in-default : goal.returns-in-default
-returns-in-default g c sound =
+pub returns-in_default : goal.returns-in_default
+returns-in_default g c sound =
     let es = records_of g.R.Roll g.K.OrderedKey c.args.self.now in
     tidied_all g.K.OrderedKey g.R.Roll g.met.K.OrderedKey.lawful (set_of c.args.members.now) c.args.self.now c.loop-i.self c.loop-i.i (c.loop-i.invariant sound)
-    (past_from_nth es c.loop-i.i (no_entry_from_key es c.loop-i.i (ap (λ js. slice_get js c.loop-i.i) (sym (c.keys-keys.ensures sound)) ∙ sym c.in-default.ensures)))
+    (past_from_nth es c.loop-i.i (no_entry_from_key es c.loop-i.i (ap (λ js. slice_get js c.loop-i.i) (sym (c.keys-keys.ensures sound)) ∙ sym c.in_default.ensures)))
 
 pub returns : goal.returns
 returns g c sound =

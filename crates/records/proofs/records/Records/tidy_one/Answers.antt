@@ -18,7 +18,7 @@ returns g c sound =
       sound = gone.sound;
       now_records =
           gone.now_entries k here
-          ∙ sym (ap (λ t. cond t (cut o.order k es) es) (sym c.if-not-is-stale.ensures))
+          ∙ sym (ap (λ t. cond t (cut o.order k es) es) (sym c.if-not-is_stale.ensures))
           ∙ ap (λ r. without_stale g.R.Roll o (set_of c.args.members.now) k r es) (c.in-Some-at.ensures k sound here);
       emptied = emptied_to (places_of g.R.Roll d) (g.R.Roll.places c.remove.new.self.roll) c.in-Some.place gone.now_places;
     }

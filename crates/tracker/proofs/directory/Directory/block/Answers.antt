@@ -11,8 +11,8 @@ use Rattle.tracker.proofs.Blocking.{answers_blocked, answers_ourselves, answers-
 use Rattle.tracker.proofs.Parts.{same_state, kept_law, unchanged}
 use Rattle.tracker.proofs.directory.Directory.block.Goals as goal
 
-pub returns-then-is-blocked : goal.returns-then-is-blocked
-returns-then-is-blocked g c =
+pub returns-then-is_blocked : goal.returns-then-is_blocked
+returns-then-is_blocked g c =
     record {
       performed = performed;
       refusal_changes_nothing = λ sound e. unchanged g.K.OrderedKey g.R.Roll g.B.Roll c.args.self.now;
@@ -21,10 +21,10 @@ returns-then-is-blocked g c =
     }
   where
     performed : Sound g.K.OrderedKey g.R.Roll g.B.Roll c.args.self.now → Performed g.K.OrderedKey g.R.Roll g.B.Roll c.args.self.now c.args.self.now (Block c.args.at c.args.key.now) (Refused BlockedAlready)
-    performed sound = performed_unblocked g.K.OrderedKey g.R.Roll g.B.Roll c.args.self.now c.args.self.now c.args.at c.args.key.now BlockedAlready (answers_blocked g.K.OrderedKey.order (state g.K.OrderedKey g.R.Roll g.B.Roll c.args.self.now) c.args.at c.args.key.now (c.if-is-blocked.ensures sound.blocks_sound)) sound refl
+    performed sound = performed_unblocked g.K.OrderedKey g.R.Roll g.B.Roll c.args.self.now c.args.self.now c.args.at c.args.key.now BlockedAlready (answers_blocked g.K.OrderedKey.order (state g.K.OrderedKey g.R.Roll g.B.Roll c.args.self.now) c.args.at c.args.key.now (c.if-is_blocked.ensures sound.blocks_sound)) sound refl
 
-pub returns-then-is-same : goal.returns-then-is-same
-returns-then-is-same g c =
+pub returns-then-is_same : goal.returns-then-is_same
+returns-then-is_same g c =
     record {
       performed = performed;
       refusal_changes_nothing = λ sound e. unchanged g.K.OrderedKey g.R.Roll g.B.Roll c.args.self.now;
@@ -33,16 +33,16 @@ returns-then-is-same g c =
     }
   where
     performed : Sound g.K.OrderedKey g.R.Roll g.B.Roll c.args.self.now → Performed g.K.OrderedKey g.R.Roll g.B.Roll c.args.self.now c.args.self.now (Block c.args.at c.args.key.now) (Refused Ourselves)
-    performed sound = performed_unblocked g.K.OrderedKey g.R.Roll g.B.Roll c.args.self.now c.args.self.now c.args.at c.args.key.now Ourselves (answers_ourselves g.K.OrderedKey.order (state g.K.OrderedKey g.R.Roll g.B.Roll c.args.self.now) c.args.at c.args.key.now (c.if-is-blocked.ensures sound.blocks_sound) c.if-is-same.ensures) sound refl
+    performed sound = performed_unblocked g.K.OrderedKey g.R.Roll g.B.Roll c.args.self.now c.args.self.now c.args.at c.args.key.now Ourselves (answers_ourselves g.K.OrderedKey.order (state g.K.OrderedKey g.R.Roll g.B.Roll c.args.self.now) c.args.at c.args.key.now (c.if-is_blocked.ensures sound.blocks_sound) c.if-is_same.ensures) sound refl
 
-pub returns-in-err-block : goal.returns-in-err-block
-returns-in-err-block g c =
+pub returns-in_err-block : goal.returns-in_err-block
+returns-in_err-block g c =
     record {
-      performed = λ sound. carried c.from-residual.result TooManyBlocks (λ r. Performed g.K.OrderedKey g.R.Roll g.B.Roll c.args.self.now (record { own = c.args.self.now.own; config = c.args.self.now.config; records = c.args.self.now.records; sets = c.args.self.now.sets; blocks = c.block.new.self }) (Block c.args.at c.args.key.now) (done_or r)) c.from-residual.ensures.0 c.from-residual.ensures.1 (performed sound);
+      performed = λ sound. carried c.from_residual.result TooManyBlocks (λ r. Performed g.K.OrderedKey g.R.Roll g.B.Roll c.args.self.now (record { own = c.args.self.now.own; config = c.args.self.now.config; records = c.args.self.now.records; sets = c.args.self.now.sets; blocks = c.block.new.self }) (Block c.args.at c.args.key.now) (done_or r)) c.from_residual.ensures.0 c.from_residual.ensures.1 (performed sound);
       refusal_changes_nothing = λ sound e. same sound;
       at_most_one_place_filled = λ sound. record { record_places = refl; block_places = inl (same sound).same_blocks.same_places };
       keeps_the_law =
-          carried c.from-residual.result TooManyBlocks (λ r. KeepsLaw g.K.OrderedKey g.R.Roll g.B.Roll c.args.self.now (record { own = c.args.self.now.own; config = c.args.self.now.config; records = c.args.self.now.records; sets = c.args.self.now.sets; blocks = c.block.new.self }) (Block c.args.at c.args.key.now) (done_or r)) c.from-residual.ensures.0 c.from-residual.ensures.1
+          carried c.from_residual.result TooManyBlocks (λ r. KeepsLaw g.K.OrderedKey g.R.Roll g.B.Roll c.args.self.now (record { own = c.args.self.now.own; config = c.args.self.now.config; records = c.args.self.now.records; sets = c.args.self.now.sets; blocks = c.block.new.self }) (Block c.args.at c.args.key.now) (done_or r)) c.from_residual.ensures.0 c.from_residual.ensures.1
           (λ sound. kept_law g.K.OrderedKey g.R.Roll g.B.Roll g.met.K.OrderedKey.lawful c.args.self.now (record { own = c.args.self.now.own; config = c.args.self.now.config; records = c.args.self.now.records; sets = c.args.self.now.sets; blocks = c.block.new.self }) (Block c.args.at c.args.key.now) (Refused TooManyBlocks) (performed sound));
     }
   where
@@ -50,7 +50,7 @@ returns-in-err-block g c =
     same sound =
         record {
           same_records = record { same_places = refl; same_values = refl };
-          same_blocks = (c.in-err-block.ensures.answered sound.blocks_sound).1.unchanged;
+          same_blocks = (c.in_err-block.ensures.answered sound.blocks_sound).1.unchanged;
           same_sets = refl;
           same_own = refl;
           same_config = refl;
@@ -58,10 +58,10 @@ returns-in-err-block g c =
 
     performed : Sound g.K.OrderedKey g.R.Roll g.B.Roll c.args.self.now → Performed g.K.OrderedKey g.R.Roll g.B.Roll c.args.self.now (record { own = c.args.self.now.own; config = c.args.self.now.config; records = c.args.self.now.records; sets = c.args.self.now.sets; blocks = c.block.new.self }) (Block c.args.at c.args.key.now) (Refused TooManyBlocks)
     performed sound =
-        let full = c.in-err-block.ensures in
+        let full = c.in_err-block.ensures in
         let kept = (full.answered sound.blocks_sound).1.unchanged in
         performed_unblocked g.K.OrderedKey g.R.Roll g.B.Roll c.args.self.now (record { own = c.args.self.now.own; config = c.args.self.now.config; records = c.args.self.now.records; sets = c.args.self.now.sets; blocks = c.block.new.self }) c.args.at c.args.key.now TooManyBlocks
-        (answers-full g.K.OrderedKey.order (state g.K.OrderedKey g.R.Roll g.B.Roll c.args.self.now) c.args.at c.args.key.now (c.if-is-blocked.ensures sound.blocks_sound) c.if-is-same.ensures (full.fits sound.blocks_sound))
+        (answers-full g.K.OrderedKey.order (state g.K.OrderedKey g.R.Roll g.B.Roll c.args.self.now) c.args.at c.args.key.now (c.if-is_blocked.ensures sound.blocks_sound) c.if-is_same.ensures (full.fits sound.blocks_sound))
         (record { records_sound = sound.records_sound; blocks_sound = (full.answered sound.blocks_sound).0; some_sets = sound.some_sets; few_sets = sound.few_sets })
         (same_state _ _ refl refl refl (ap length kept.same_places) refl refl (λ i. listing g.K.OrderedKey.order (kept.same_places i) (kept.same_values i)))
 
@@ -72,17 +72,17 @@ returns g c =
       refusal_changes_nothing = λ sound e. absurd (false≢true e);
       at_most_one_place_filled =
           λ sound.
-          let entered = (c.in-ok-block.ensures.answered sound.blocks_sound).1 in
+          let entered = (c.in_ok-block.ensures.answered sound.blocks_sound).1 in
           record { record_places = refl; block_places = one_filled (places_of g.B.Roll c.args.self.now.blocks) (places_of g.B.Roll c.block.new.self) c.args.key.now entered.0 entered.1.free entered.1.now_places };
       keeps_the_law = λ sound. kept_law g.K.OrderedKey g.R.Roll g.B.Roll g.met.K.OrderedKey.lawful c.args.self.now (record { own = c.args.self.now.own; config = c.args.self.now.config; records = c.args.self.now.records; sets = c.args.self.now.sets; blocks = c.block.new.self }) (Block c.args.at c.args.key.now) Done (performed sound);
     }
   where
     performed : Sound g.K.OrderedKey g.R.Roll g.B.Roll c.args.self.now → Performed g.K.OrderedKey g.R.Roll g.B.Roll c.args.self.now (record { own = c.args.self.now.own; config = c.args.self.now.config; records = c.args.self.now.records; sets = c.args.self.now.sets; blocks = c.block.new.self }) (Block c.args.at c.args.key.now) Done
     performed sound =
-        let done = c.in-ok-block.ensures in
+        let done = c.in_ok-block.ensures in
         let entered = (done.answered sound.blocks_sound).1 in
         performed_blocking g.K.OrderedKey g.R.Roll g.B.Roll c.args.self.now (record { own = c.args.self.now.own; config = c.args.self.now.config; records = c.args.self.now.records; sets = c.args.self.now.sets; blocks = c.block.new.self }) c.args.at c.args.key.now
-        (answers-done g.K.OrderedKey.order (state g.K.OrderedKey g.R.Roll g.B.Roll c.args.self.now) c.args.at c.args.key.now (c.if-is-blocked.ensures sound.blocks_sound) c.if-is-same.ensures (done.fits sound.blocks_sound))
+        (answers-done g.K.OrderedKey.order (state g.K.OrderedKey g.R.Roll g.B.Roll c.args.self.now) c.args.at c.args.key.now (c.if-is_blocked.ensures sound.blocks_sound) c.if-is_same.ensures (done.fits sound.blocks_sound))
         (record { records_sound = sound.records_sound; blocks_sound = (done.answered sound.blocks_sound).0; some_sets = sound.some_sets; few_sets = sound.few_sets })
         (same_state _ _ refl refl refl (ap length entered.1.now_places ∙ length-set (places_of g.B.Roll c.args.self.now.blocks) entered.0 (Some c.args.key.now)) refl refl
-        (entered.1.now_entries ∙ ap (λ x. put g.K.OrderedKey.order c.args.key.now x (expiries_of g.B.Roll g.K.OrderedKey c.args.self.now.blocks)) c.saturating-add-expiry.ensures))
+        (entered.1.now_entries ∙ ap (λ x. put g.K.OrderedKey.order c.args.key.now x (expiries_of g.B.Roll g.K.OrderedKey c.args.self.now.blocks)) c.saturating_add-expiry.ensures))

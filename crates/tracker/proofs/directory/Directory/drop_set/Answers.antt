@@ -14,6 +14,6 @@ returns g c sound =
       sound = record { records_sound = t.sound; blocks_sound = sound.blocks_sound; some_sets = sound.some_sets; few_sets = sound.few_sets };
       only_records = record { same_own = refl; same_config = refl; same_sets = refl; same_blocks = refl };
       now_records = t.now_records ∙ ap (tidied o.order set) l.now_records;
-      names = c.to-close-named.ensures l.sound ∙ ap (to_close o.order set) l.now_records;
+      names = c.to_close-named.ensures l.sound ∙ ap (to_close o.order set) l.now_records;
       emptied = subst (λ ps. Emptied ps (places_of g.R.Roll c.tidy.new.self)) l.same_places t.emptied;
     }

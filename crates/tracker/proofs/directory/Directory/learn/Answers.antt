@@ -6,13 +6,13 @@ use Rattle.tracker.specs.Directories.{state}
 use Rattle.tracker.proofs.Parts.{same_state}
 use Rattle.tracker.proofs.directory.Directory.learn.Goals as goal
 
-pub returns-in-default : goal.returns-in-default
-returns-in-default g c =
+pub returns-in_default : goal.returns-in_default
+returns-in_default g c =
     record {
       few = omega arith;
       learnt =
           λ sound.
-          let l = c.in-default.ensures sound.records_sound in
+          let l = c.in_default.ensures sound.records_sound in
           let s = state g.K.OrderedKey g.R.Roll g.B.Roll c.args.self.now in
           record {
             sound = record { records_sound = l.sound; blocks_sound = sound.blocks_sound; some_sets = sound.some_sets; few_sets = sound.few_sets };

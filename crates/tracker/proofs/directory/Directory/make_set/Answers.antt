@@ -8,7 +8,7 @@ pub returns-in-Some : goal.returns-in-Some
 returns-in-Some g c sound = refusal_early g.K.OrderedKey.order (state g.K.OrderedKey g.R.Roll g.B.Roll c.args.self.now) c.args.index c.args.primary.now c.args.secondary.now c.in-Some.fault c.in-Some.ensures
 
 pub returns-in-Some-new : goal.returns-in-Some-new
-returns-in-Some-new g c sound = (sym c.in-default.ensures, c.in-Some-new.ensures.made)
+returns-in-Some-new g c sound = (sym c.in_default.ensures, c.in-Some-new.ensures.made)
 
 pub returns-in-None : goal.returns-in-None
 returns-in-None g c sound =
@@ -16,7 +16,7 @@ returns-in-None g c sound =
     let s = state g.K.OrderedKey g.R.Roll g.B.Roll c.args.self.now in
     let p = c.args.primary.now in
     let q = c.args.secondary.now in
-    let early = sym c.in-default.ensures in
+    let early = sym c.in_default.ensures in
     let passed = early_passed order s c.args.index p q early in
     let table = c.args.self.now.records.table in
     refusal_many order s c.args.index p q g.met.K.OrderedKey.lawful passed.0 passed.1 (ascending-entries g.R.Roll g.K.OrderedKey g.met.K.OrderedKey.lawful table)

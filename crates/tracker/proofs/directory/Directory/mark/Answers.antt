@@ -20,8 +20,8 @@ loop-i-preserved g c sound =
           (sym c.in-Some.ensures) (c.is_known.ensures sound.records_sound);
     }
 
-pub returns-in-default : goal.returns-in-default
-returns-in-default g c sound =
+pub returns-in_default : goal.returns-in_default
+returns-in_default g c sound =
     let first = c.loop-i.invariant sound in
     let ms = (set_of c.args.set.now).primary in
     let now-ms = (set_of c.loop-i.set).primary in
@@ -29,7 +29,7 @@ returns-in-default g c sound =
       same_index = first.same_index;
       same_secondary = first.same_secondary;
       now_primary =
-          mark_all g.K.OrderedKey.order c.args.self.now.config.dial_fail_limit (records_of g.R.Roll g.K.OrderedKey c.args.self.now.records) ms now-ms c.loop-i.i (past_marks g.K.OrderedKey.order c.args.self.now.config.dial_fail_limit (records_of g.R.Roll g.K.OrderedKey c.args.self.now.records) ms now-ms c.loop-i.i first.now_primary (sym c.in-default.ensures)) first.now_primary;
+          mark_all g.K.OrderedKey.order c.args.self.now.config.dial_fail_limit (records_of g.R.Roll g.K.OrderedKey c.args.self.now.records) ms now-ms c.loop-i.i (past_marks g.K.OrderedKey.order c.args.self.now.config.dial_fail_limit (records_of g.R.Roll g.K.OrderedKey c.args.self.now.records) ms now-ms c.loop-i.i first.now_primary (sym c.in_default.ensures)) first.now_primary;
     }
 
 pub returns : goal.returns
@@ -39,5 +39,5 @@ returns g c sound =
     record {
       same_index = first.same_index;
       same_secondary = first.same_secondary;
-      now_primary = mark_all g.K.OrderedKey.order c.args.self.now.config.dial_fail_limit (records_of g.R.Roll g.K.OrderedKey c.args.self.now.records) ms (set_of c.loop-i.set).primary c.loop-i.i (omega (arith, c.primary-len-i-end.ensures, c.loop-i-test.false)) first.now_primary;
+      now_primary = mark_all g.K.OrderedKey.order c.args.self.now.config.dial_fail_limit (records_of g.R.Roll g.K.OrderedKey c.args.self.now.records) ms (set_of c.loop-i.set).primary c.loop-i.i (omega (arith, c.primary_len-i-end.ensures, c.loop-i-test.false)) first.now_primary;
     }

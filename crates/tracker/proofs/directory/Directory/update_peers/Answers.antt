@@ -6,8 +6,8 @@ use Rattle.tracker.proofs.Learning.{performed_learning, performed_malformed}
 use Rattle.tracker.proofs.Parts.{kept_law, unchanged, same_places}
 use Rattle.tracker.proofs.directory.Directory.update_peers.Goals as goal
 
-pub returns-then-not-are-well-formed : goal.returns-then-not-are-well-formed
-returns-then-not-are-well-formed g c =
+pub returns-then-not-are_well_formed : goal.returns-then-not-are_well_formed
+returns-then-not-are_well_formed g c =
     record {
       performed = performed;
       refusal_changes_nothing = λ e. unchanged g.K.OrderedKey g.R.Roll g.B.Roll c.args.self.now;
@@ -16,7 +16,7 @@ returns-then-not-are-well-formed g c =
     }
   where
     performed : Sound g.K.OrderedKey g.R.Roll g.B.Roll c.args.self.now → Performed g.K.OrderedKey g.R.Roll g.B.Roll c.args.self.now c.args.self.now (UpdatePeers c.args.infos.now) (Refused MalformedHost)
-    performed sound = performed_malformed g.K.OrderedKey g.R.Roll g.B.Roll c.args.self.now c.args.self.now c.args.infos.now c.if-not-are-well-formed.ensures sound
+    performed sound = performed_malformed g.K.OrderedKey g.R.Roll g.B.Roll c.args.self.now c.args.self.now c.args.infos.now c.if-not-are_well_formed.ensures sound
 
 pub returns : goal.returns
 returns g c =
@@ -28,4 +28,4 @@ returns g c =
     }
   where
     performed : Sound g.K.OrderedKey g.R.Roll g.B.Roll c.args.self.now → Performed g.K.OrderedKey g.R.Roll g.B.Roll c.args.self.now c.learn_all.new.self (UpdatePeers c.args.infos.now) (Taken c.learn_all.result)
-    performed sound = performed_learning g.K.OrderedKey g.R.Roll g.B.Roll c.args.self.now c.learn_all.new.self c.args.infos.now c.learn_all.result c.if-not-are-well-formed.ensures (c.learn_all.ensures sound)
+    performed sound = performed_learning g.K.OrderedKey g.R.Roll g.B.Roll c.args.self.now c.learn_all.new.self c.args.infos.now c.learn_all.result c.if-not-are_well_formed.ensures (c.learn_all.ensures sound)
