@@ -4,7 +4,7 @@ use Rattle.std.proofs.Common.{sym, ◌∙◌, ap, subst, ⊎_elim, arith}
 use Rattle.std.proofs.lemmas.List.{get_or_read, get_or_past, length-map, length-set, length-replicate, map-set, set_past}
 use Rattle.keys.specs.Orders.{never}
 use Rattle.rolls.specs.Places.{at, Distinct, Proper, RightSize}
-use Rattle.rolls.proofs.Tables.{getD_after-set, distinct_strike, distinct_enter, distinct-vacant}
+use Rattle.rolls.proofs.Tables.{get_or-after_set, distinct_strike, distinct_enter, distinct-vacant}
 use Rattle.hashed_roll.specs.Slots.{place_of, places_of, slot_at, is_empty, is_unused}
 use Rattle.hashed_roll.specs.Probing.{Reached, Sound, AllUnused, FirstEmpty, Suits}
 use Rattle.hashed_roll.specs.declared.slot.Slot.{Slot}
@@ -68,7 +68,7 @@ module _ {K : Type 0} where
 
   -- what a slot is after a write at i: what was written, at i, or what it was
   slot_after-set : (slots : List (Slot K)) (i p : ℕ) (v : Slot K) → (slot_at (slice_set slots i v) p ≡ slot_at slots p) ⊎ ((p ≡ i) × (slot_at (slice_set slots i v) p ≡ v))
-  slot_after-set slots i p v = getD_after-set slots i p v Unused
+  slot_after-set slots i p v = get_or-after_set slots i p v Unused
 
   used-set : (slots : List (Slot K)) (i : ℕ) (v : Slot K) (p : ℕ) → is_unused v ≡ false → is_unused (slot_at slots p) ≡ false → is_unused (slot_at (slice_set slots i v) p) ≡ false
   used-set slots i v p u h = ⊎_elim (λ e. ap is_unused e ∙ h) (λ e. ap is_unused e.1 ∙ u) (slot_after-set slots i p v)

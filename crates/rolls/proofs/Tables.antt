@@ -5,12 +5,12 @@ use Rattle.std.proofs.lemmas.Bool.{cases_lt, both_ways}
 use Rattle.rolls.specs.Places.{at, Absent, Distinct, occupied}
 
 -- what a list has after a write at i, whatever it has past its end: what was written, at i, or what it had
-pub getD_after-set : {X : Type 0} (xs : List X) (i p : ℕ) (v d : X) → (get_or (set xs i v) p d ≡ get_or xs p d) ⊎ ((p ≡ i) × (get_or (set xs i v) p d ≡ v))
-getD_after-set [] i p v d = inl refl
-getD_after-set (x ∷ xs) zero zero v d = inr (refl, refl)
-getD_after-set (x ∷ xs) zero (suc p) v d = inl refl
-getD_after-set (x ∷ xs) (suc i) zero v d = inl refl
-getD_after-set (x ∷ xs) (suc i) (suc p) v d = ⊎_elim inl (λ h. inr (ap suc h.0, h.1)) (getD_after-set xs i p v d)
+pub get_or-after_set : {X : Type 0} (xs : List X) (i p : ℕ) (v d : X) → (get_or (set xs i v) p d ≡ get_or xs p d) ⊎ ((p ≡ i) × (get_or (set xs i v) p d ≡ v))
+get_or-after_set [] i p v d = inl refl
+get_or-after_set (x ∷ xs) zero zero v d = inr (refl, refl)
+get_or-after_set (x ∷ xs) zero (suc p) v d = inl refl
+get_or-after_set (x ∷ xs) (suc i) zero v d = inl refl
+get_or-after_set (x ∷ xs) (suc i) (suc p) v d = ⊎_elim inl (λ h. inr (ap suc h.0, h.1)) (get_or-after_set xs i p v d)
 
 module _ {K : Type 0} where
   -- a place with a key is not empty
@@ -26,7 +26,7 @@ module _ {K : Type 0} where
 
   -- what a place has after a write at i: what was written, at i, or what it had
   pub after-set : (ps : List (Option K)) (i p : ℕ) (v : Option K) → (at (set ps i v) p ≡ at ps p) ⊎ ((p ≡ i) × (at (set ps i v) p ≡ v))
-  after-set ps i p v = getD_after-set ps i p v None
+  after-set ps i p v = get_or-after_set ps i p v None
 
   pub distinct_strike : (ps : List (Option K)) (i : ℕ) → Distinct ps → Distinct (set ps i None)
   distinct_strike ps i d p q k e f =
