@@ -6,22 +6,13 @@ use Rattle.types.specs.Times.{earlier}
 use Rattle.types.specs.declared.moment.Moment.{Moment}
 use Rattle.key_list.specs.Keys.{is_equal}
 use Rattle.key_list.proofs.Walks.{same_some, some_none}
-use Rattle.tables.specs.Listings.{lookup, cut, Ascending, entries_where}
+use Rattle.tables.specs.Listings.{lookup, cut, Ascending}
 use Rattle.tables.proofs.Entries.{equal_itself, same_from_equal, same_or_not, lookup-before, lookup-cut_same, lookup-cut_other}
 use Rattle.tables.proofs.Walks.{cut_between}
 use Rattle.model.specs.Calls.{unexpired, any_expired}
 use Rattle.blocks.specs.Passed.{has_expired}
 
 module _ {K V : Type 0} where
-  entries_where-append : (test : K → V → Bool) (es fs : List (K × V)) → entries_where test (es ++ fs) ≡ entries_where test es ++ entries_where test fs
-  entries_where-append test [] fs = refl
-  entries_where-append test (e ∷ es) fs = by (test e.0 e.1) (entries_where-append test es fs)
-    where
-      by : (t : Bool) → entries_where test (es ++ fs) ≡ entries_where test es ++ entries_where test fs
-          → cond t (e ∷ entries_where test (es ++ fs)) (entries_where test (es ++ fs)) ≡ cond t (e ∷ entries_where test es) (entries_where test es) ++ entries_where test fs
-      by true rest = ap (λ xs. e ∷ xs) rest
-      by false rest = rest
-
   -- an entry that is found, and what stands in front of it and behind it
   pub record Between (es : List (K × V)) (k : K) (v : V) : Type 0 where
     pub done : List (K × V)
@@ -44,6 +35,15 @@ module _ {K V : Type 0} where
         by later false h = let b = later (looked false h) in record { done = e ∷ b.done; rest = b.rest; whole = ap (λ xs. e ∷ xs) b.whole }
 
 module _ {K : Type 0} (moment : Moment) where
+  unexpired-append : (es fs : List (K × Moment)) → unexpired moment (es ++ fs) ≡ unexpired moment es ++ unexpired moment fs
+  unexpired-append [] fs = refl
+  unexpired-append (e ∷ es) fs = by (earlier moment e.1) (unexpired-append es fs)
+    where
+      by : (t : Bool) → unexpired moment (es ++ fs) ≡ unexpired moment es ++ unexpired moment fs
+          → cond t (e ∷ unexpired moment (es ++ fs)) (unexpired moment (es ++ fs)) ≡ cond t (e ∷ unexpired moment es) (unexpired moment es) ++ unexpired moment fs
+      by true rest = ap (λ xs. e ∷ xs) rest
+      by false rest = rest
+
   any_expired-append : (es fs : List (K × Moment)) → any_expired moment (es ++ fs) ≡ (any_expired moment es || any_expired moment fs)
   any_expired-append [] fs = refl
   any_expired-append (e ∷ es) fs = by (not (earlier moment e.1)) (any_expired-append es fs)
@@ -66,12 +66,11 @@ module _ {K : Type 0} (moment : Moment) where
       pub unexpired-cut : Ascending order es → unexpired moment (cut order k es) ≡ unexpired moment es
       unexpired-cut a =
           let b = between_from_lookup order lawful k v es found in
-          let test : K → Moment → Bool = λ j expiry. earlier moment expiry in
           ap (λ xs. unexpired moment (cut order k xs)) b.whole
           ∙ ap (unexpired moment) (cut_between order lawful b.done b.rest k v (subst (Ascending order) b.whole a))
-          ∙ entries_where-append test b.done b.rest
+          ∙ unexpired-append b.done b.rest
           ∙ sym (ap (λ t. unexpired moment b.done ++ cond t ((k, v) ∷ unexpired moment b.rest) (unexpired moment b.rest)) (not-true (earlier moment v) expired))
-          ∙ sym (entries_where-append test b.done ((k, v) ∷ b.rest))
+          ∙ sym (unexpired-append b.done ((k, v) ∷ b.rest))
           ∙ sym (ap (unexpired moment) b.whole)
 
     -- a cut makes no entry expired

@@ -6,7 +6,7 @@ use Rattle.keys.specs.declared.ordered_key.OrderedKey as ordered
 use Rattle.rolls.specs.Places.{at, Absent, Distinct, NoneEmpty, occupied}
 use Rattle.rolls.specs.declared.fault.RollFault.{RollFault}
 use Rattle.rolls.specs.declared.roll.Roll as roll
-use Rattle.rolls.proofs.Tables.{within, occupied_lt}
+use Rattle.rolls.proofs.Tables.{occupied_lt}
 use Rattle.tables.specs.Listings.{lookup, listing}
 use Rattle.tables.specs.Tabled.{places_of, entries, Sound, EnterAnswer}
 use Rattle.tables.specs.declared.table.Table.{Table}

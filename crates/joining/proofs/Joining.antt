@@ -1,5 +1,5 @@
 -- What joining and leaving make of each key's record, and which links a set that leaves has closed.
-use Rattle.std.proofs.Common.{◌≡◌, ℕ, Bool, true, false, cond, not, ◌&&◌, ◌||◌, List, [], ◌∷◌, Some, None, Option, Ordering, Less, Equal, Greater, unwrap_or, sym, refl, ap, ◌∙◌}
+use Rattle.std.proofs.Common.{◌≡◌, ℕ, Bool, true, false, cond, not, ◌&&◌, ◌||◌, List, [], ◌∷◌, Some, None, Option, Ordering, Less, Equal, Greater, unwrap_or, sym, refl, ap, ◌∙◌, subst}
 use Rattle.std.specs.Option.{option_map}
 use Rattle.std.proofs.lemmas.Bool.{both_ways, and_from, and_parts, and_right, or_from, or_left, cond-true, cond-false}
 use Rattle.keys.specs.Order.{Lawful, is_less, below_first, ascending}
@@ -12,8 +12,10 @@ use Rattle.tables.specs.Listings.{lookup, put, Ascending}
 use Rattle.tables.proofs.Entries.{above_from_below, equal_itself, same_from_equal, lookup-put_same, lookup-put_other, ascending-put}
 use Rattle.model.specs.Sets.{primaries}
 use Rattle.model.specs.State.{PeerSet}
-use Rattle.model.specs.Track.{known, each, joined, with_bits, changed, each_there, left, is_member, to_close, tidied, record_joined, record_tidied, record_left}
-use Rattle.joining.proofs.Where.{kept, passes, lookup-entries_where, ascending-entries_where, has-keys_where, ascends-keys_where}
+use Rattle.model.specs.There.{changed, each_there}
+use Rattle.model.specs.Track.{known, each, joined, with_bits, left, is_member, to_close, tidied, record_joined, record_tidied, record_left}
+use Rattle.joining.proofs.Where.{kept, passes, kept_at, lookup-entries_where, ascending-entries_where, has-keys_where, ascends-keys_where}
+use Rattle.joining.proofs.Wheres.{to_close-where, tidied-where}
 
 less_from : (o : Ordering) → is_less o ≡ true → o ≡ Less
 less_from Less h = refl
@@ -23,7 +25,8 @@ less_from Greater h = never (cc)
 -- the record of a key after its set left, before any is deleted, by whether the key was a primary or a secondary
 abbrev pub record_down : {K : Type 0} → Bool → Bool → Option (Record K) → Option (Record K)
 record_down primary secondary r =
-    cond secondary (option_map secondary_down (cond primary (option_map primary_down r) r)) (cond primary (option_map primary_down r) r)
+    cond secondary (Some (secondary_down (unwrap_or (cond primary (Some (primary_down (unwrap_or r (fresh Unknown false)))) r) (fresh Unknown false))))
+    (cond primary (Some (primary_down (unwrap_or r (fresh Unknown false)))) r)
 
 -- lists of keys
 
@@ -124,11 +127,13 @@ module _ {K : Type 0} (order : K → K → Ordering) (lawful : Lawful order) whe
 
   pub ascending_left : (set : PeerSet K) (records : List (K × Record K)) → Ascending order records → Ascending order (left order set records)
   ascending_left set records a =
-      ascending-each_there secondary_down set.secondary (each_there order primary_down (primaries set.primary) records)
-      (ascending-each_there primary_down (primaries set.primary) records a)
+      ascending_each secondary_down set.secondary (each order primary_down (primaries set.primary) records)
+      (ascending_each primary_down (primaries set.primary) records a)
 
   pub ascending-tidied : (set : PeerSet K) (records : List (K × Record K)) → Ascending order records → Ascending order (tidied order set records)
-  ascending-tidied set records a = ascending-entries_where order lawful (λ k r. not (is_member order set k && deletable r)) records a
+  ascending-tidied set records a =
+      subst (Ascending order) (sym (tidied-where order set records))
+      (ascending-entries_where order lawful (λ k r. not (is_member order set k && deletable r)) records a)
 
   -- each record of a list of keys changed
 
@@ -207,8 +212,8 @@ module _ {K : Type 0} (order : K → K → Ordering) (lawful : Lawful order) whe
 
   pub lookup_left : (set : PeerSet K) (k : K) (records : List (K × Record K)) → ascending order (primaries set.primary) ≡ true → ascending order set.secondary ≡ true → lookup order k (left order set records) ≡ record_down (has order k (primaries set.primary)) (has order k set.secondary) (lookup order k records)
   lookup_left set k records a b =
-      lookup-each_there secondary_down k set.secondary (each_there order primary_down (primaries set.primary) records) b
-      ∙ ap (λ o. cond (has order k set.secondary) (option_map secondary_down o) o) (lookup-each_there primary_down k (primaries set.primary) records a)
+      lookup_each secondary_down k set.secondary (each order primary_down (primaries set.primary) records) b
+      ∙ ap (λ o. cond (has order k set.secondary) (Some (secondary_down (unwrap_or o (fresh Unknown false)))) o) (lookup_each primary_down k (primaries set.primary) records a)
 
   -- a member's record that is kept unless it may be deleted
   tidy : (r : Record K) → cond (not (deletable r)) (Some r) None ≡ record_tidied r
@@ -227,14 +232,10 @@ module _ {K : Type 0} (order : K → K → Ordering) (lawful : Lawful order) whe
   left_by false false k None n = refl
   left_by false false k (Some r) n = refl
 
-  -- a test of a key and a value asks only about that key
-  kept_at : {V : Type 0} (test : K → V → Bool) (k : K) (o : Option V) → kept test k o ≡ kept (λ j. test k) k o
-  kept_at test k None = refl
-  kept_at test k (Some v) = refl
-
   pub lookup-leaving : (set : PeerSet K) (k : K) (records : List (K × Record K)) → Ascending order records → ascending order (primaries set.primary) ≡ true → ascending order set.secondary ≡ true → ((j : K) → has order j (primaries set.primary) ≡ true → has order j set.secondary ≡ false) → lookup order k (tidied order set (left order set records)) ≡ record_left (has order k (primaries set.primary)) (has order k set.secondary) (lookup order k records)
   lookup-leaving set k records c a b n =
-      lookup-entries_where order lawful (λ j r. not (is_member order set j && deletable r)) k (left order set records) (ascending_left set records c)
+      ap (lookup order k) (tidied-where order set (left order set records))
+      ∙ lookup-entries_where order lawful (λ j r. not (is_member order set j && deletable r)) k (left order set records) (ascending_left set records c)
       ∙ kept_at (λ j r. not (is_member order set j && deletable r)) k (lookup order k (left order set records))
       ∙ ap (kept (λ j r. not (is_member order set k && deletable r)) k) (lookup_left set k records a b)
       ∙ left_by (has order k (primaries set.primary)) (has order k set.secondary) k (lookup order k records) (n k)
@@ -243,11 +244,15 @@ module _ {K : Type 0} (order : K → K → Ordering) (lawful : Lawful order) whe
 
   pub has-to_close : (set : PeerSet K) (k : K) (es : List (K × Record K)) → Ascending order es → has order k (to_close order set es) ≡ (is_member order set k && passes (λ j r. teardown r) k (lookup order k es))
   has-to_close set k es a =
-      has-keys_where order lawful (λ j r. is_member order set j && teardown r) k es a ∙ by (lookup order k es)
+      ap (has order k) (to_close-where order set es)
+      ∙ has-keys_where order lawful (λ j r. is_member order set j && teardown r) k es a
+      ∙ by (lookup order k es)
     where
       by : (o : Option (Record K)) → passes (λ j r. is_member order set j && teardown r) k o ≡ (is_member order set k && passes (λ j r. teardown r) k o)
       by None = sym (and_right (is_member order set k) false refl)
       by (Some r) = refl
 
   pub ascends-to_close : (set : PeerSet K) (es : List (K × Record K)) → Ascending order es → ascending order (to_close order set es) ≡ true
-  ascends-to_close set es a = ascends-keys_where order lawful (λ j r. is_member order set j && teardown r) es a
+  ascends-to_close set es a =
+      ap (ascending order) (to_close-where order set es)
+      ∙ ascends-keys_where order lawful (λ j r. is_member order set j && teardown r) es a

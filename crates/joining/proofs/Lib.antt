@@ -1,3 +1,5 @@
 pub mod Where
+pub mod Wheres
 pub mod Joining
+pub mod There
 pub mod Rooms

@@ -7,7 +7,8 @@ use Rattle.record.specs.Records.{primary_up, secondary_up}
 use Rattle.record.specs.declared.record.Record.{Record}
 use Rattle.tables.specs.Listings.{lookup, put, Ascending}
 use Rattle.tables.proofs.Entries.{Answer, below, same, above, answer, below_from_above, unequal, equal_itself, lookup-before, lookup-put_other, ascending-put, length-put_new}
-use Rattle.model.specs.Track.{known, each, joined, changed, each_there, newcomers}
+use Rattle.model.specs.There.{changed, each_there}
+use Rattle.model.specs.Track.{known, each, joined, newcomers}
 use Rattle.joining.proofs.Where.{length-put_old, length-put_le}
 use Rattle.joining.proofs.Joining.{unequal_since, has-below, first_once, ascends_rest, has-without, ascends-without, ascending_each, lookup_each}
 

@@ -18,8 +18,13 @@ module _ {K V : Type 0} where
   passes test k None = false
   passes test k (Some v) = test k v
 
+  -- a test of a key and a value asks only about that key
+  pub kept_at : (test : K → V → Bool) (k : K) (o : Option V) → kept test k o ≡ kept (λ j. test k) k o
+  kept_at test k None = refl
+  kept_at test k (Some v) = refl
+
   -- the keys of the entries that pass are those of the entries kept
-  keys-entries_where : (test : K → V → Bool) (es : List (K × V)) → keys_where test es ≡ keys (entries_where test es)
+  pub keys-entries_where : (test : K → V → Bool) (es : List (K × V)) → keys_where test es ≡ keys (entries_where test es)
   keys-entries_where test [] = refl
   keys-entries_where test (e ∷ es) = by (test e.0 e.1) (keys-entries_where test es)
     where

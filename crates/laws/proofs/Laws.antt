@@ -130,6 +130,7 @@ module _ {K : Type 0} (order : K → K → Ordering) (lawful : Lawful order) (st
               record {
                 own_same = b.own_key;
                 config_same = b.settings;
+                counted = b.counted;
                 ordered = b.ordered;
                 tied = λ k. first_tied k (is_own order start k) refl (b.recorded k);
                 primaries_so = λ k. refl;

@@ -41,11 +41,7 @@ module _ {K : Type 0} (order : K → K → Ordering) where
 
   pub primaries-marked : (k : K) (bit : Bool) (ms : List (K × Bool)) → primaries (marked order k bit ms) ≡ primaries ms
   primaries-marked k bit [] = refl
-  primaries-marked k bit (m ∷ ms) = by (is_equal (order m.0 k)) (primaries-marked k bit ms)
-    where
-      by : (t : Bool) → primaries (marked order k bit ms) ≡ primaries ms → primaries (cond t ((m.0, bit) ∷ ms) (m ∷ marked order k bit ms)) ≡ primaries (m ∷ ms)
-      by true rest = refl
-      by false rest = ap (λ ks. m.0 ∷ ks) rest
+  primaries-marked k bit (m ∷ ms) = ap (λ ks. m.0 ∷ ks) (primaries-marked k bit ms)
 
   pub bare-marked : (k : K) (bit : Bool) (sets : List (PeerSet K)) → bare (marked_all order k bit sets) ≡ bare sets
   bare-marked k bit [] = refl
@@ -66,11 +62,8 @@ module _ {K : Type 0} (order : K → K → Ordering) (lawful : Lawful order) whe
 
       by : (t : Bool) → is_equal (order m.0 k) ≡ t → (lookup order k (marked order k bit ms) ≡ Some b → b ≡ bit) → b ≡ bit
       by true h rest =
-          some_same bit b
-          (sym (ap (λ t. lookup order k (cond t ((m.0, bit) ∷ ms) (m ∷ marked order k bit ms))) h ∙ cond-true (is_equal (order m.0 k)) (Some bit) (lookup order k ms) h) ∙ e)
-      by false h rest =
-          rest
-          (sym (ap (λ t. lookup order k (cond t ((m.0, bit) ∷ ms) (m ∷ marked order k bit ms))) h ∙ cond-false (is_equal (order m.0 k)) (Some m.1) (lookup order k (marked order k bit ms)) h) ∙ e)
+          some_same bit b (sym (ap (λ t. cond t (Some (cond t bit m.1)) (lookup order k (marked order k bit ms))) h) ∙ e)
+      by false h rest = rest (sym (ap (λ t. cond t (Some (cond t bit m.1)) (lookup order k (marked order k bit ms))) h) ∙ e)
 
   lookup-marked_other : (j k : K) (bit : Bool) (ms : List (K × Bool)) → (j ≡ k → ⊥) → lookup order k (marked order j bit ms) ≡ lookup order k ms
   lookup-marked_other j k bit [] n = refl
@@ -79,11 +72,11 @@ module _ {K : Type 0} (order : K → K → Ordering) (lawful : Lawful order) whe
       by : (t : Bool) → is_equal (order m.0 j) ≡ t → lookup order k (marked order j bit ms) ≡ lookup order k ms → lookup order k (marked order j bit (m ∷ ms)) ≡ lookup order k (m ∷ ms)
       by true h rest =
           let u = unequal order lawful m.0 k (λ e. n (sym (same_from_equal order lawful m.0 j h) ∙ e)) in
-          ap (λ t. lookup order k (cond t ((m.0, bit) ∷ ms) (m ∷ marked order j bit ms))) h
-          ∙ cond-false (is_equal (order m.0 k)) (Some bit) (lookup order k ms) u
+          cond-false (is_equal (order m.0 k)) (Some (cond (is_equal (order m.0 j)) bit m.1)) (lookup order k (marked order j bit ms)) u
+          ∙ rest
           ∙ sym (cond-false (is_equal (order m.0 k)) (Some m.1) (lookup order k ms) u)
       by false h rest =
-          ap (λ t. lookup order k (cond t ((m.0, bit) ∷ ms) (m ∷ marked order j bit ms))) h
+          ap (λ t. cond (is_equal (order m.0 k)) (Some (cond t bit m.1)) (lookup order k (marked order j bit ms))) h
           ∙ ap (λ x. cond (is_equal (order m.0 k)) (Some m.1) x) rest
 
   count_some : (k : K) (b : Bool) (s : PeerSet K) (sets : List (PeerSet K)) → lookup order k s.primary ≡ Some b → 0 < primary_count order k (bare (s ∷ sets))

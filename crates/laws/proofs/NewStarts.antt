@@ -1,5 +1,5 @@
 -- A newly made directory is at its start.
-use Rattle.std.proofs.Common.{◌≡◌, ℕ, ◌≤◌, Bool, true, false, cond, not, leb, List, [], ◌∷◌, is_some, Some, None, Ok, Err, Option, Result, Ordering, sym, refl, ap, ◌∙◌, subst, ⊎_elim, arith}
+use Rattle.std.proofs.Common.{◌≡◌, ℕ, ◌^◌, ◌<◌, ◌≤◌, Bool, true, false, cond, not, leb, List, [], ◌∷◌, is_some, Some, None, Ok, Err, Option, Result, Ordering, sym, refl, ap, ◌∙◌, subst, ⊎_elim, arith}
 use Rattle.std.specs.Option.{option_map}
 use Rattle.std.proofs.lemmas.Bool.{both_ways, and_parts, cond-true, cond-false, leb-true}
 use Rattle.types.specs.declared.info.Info.{Info}
@@ -96,8 +96,8 @@ module _ {K : Type 0} (order : K → K → Ordering) (lawful : Lawful order) whe
         (first_other k (bootstrapper order (new_start own bs config) k) (unequal order lawful own.public_key k n) refl))
         (same_or_not order lawful own.public_key k)
 
-    pub begins_new : (record_places block_places : ℕ) → init_answer order own bs config record_places true ≡ Ok tt → Begins order (new_start own bs config) (first_state order own bs config record_places block_places)
-    begins_new record_places block_places made =
+    pub begins_new : (record_places block_places : ℕ) → config.dial_fail_limit < 2 ^ 64 → init_answer order own bs config record_places true ≡ Ok tt → Begins order (new_start own bs config) (first_state order own bs config record_places block_places)
+    begins_new record_places block_places limited made =
         let z : 0 ≤ config.max_sets = omega arith in
         let n = and_parts (leb 1 config.max_sets) (leb config.max_sets 8) (sets_since _ _ _ _ _ made) in
         record {
@@ -105,6 +105,7 @@ module _ {K : Type 0} (order : K → K → Ordering) (lawful : Lawful order) whe
           settings = refl;
           some_held = leb-true 1 config.max_sets n.0;
           few_held = leb-true config.max_sets 8 n.1;
+          counted = limited;
           within = z;
           proper = tt;
           ordered = ascending-put order lawful own.public_key (fresh (Myself own) true) (with_bootstrappers order bs []) (ascending-bootstrappers bs [] tt);

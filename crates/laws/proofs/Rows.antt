@@ -1,5 +1,5 @@
 -- Worked rows: what the notions of a history give at seat numbers.
-use Rattle.std.proofs.Common.{◌≡◌, ℕ, true, false, List, [], ◌∷◌, take, drop, replicate, Some, None, refl, lit<}
+use Rattle.std.proofs.Common.{◌≡◌, ℕ, true, false, List, [], ◌∷◌, take, drop, replicate, Some, None, refl}
 use Rattle.keys.specs.Order.{ranked}
 use Rattle.ip_addr.specs.declared.ip_addr.IpAddr.TheVariants.{V4}
 use Rattle.types.specs.declared.info.Info.{Info}
@@ -31,7 +31,6 @@ config =
       dial_fail_limit = 1;
       peer_connection_cooldown = record { millis = 1000 };
       block_duration = record { millis = 5000 };
-      counted = lit< tt;
     }
 
 -- we are 9, and 4 is a bootstrapper

@@ -61,6 +61,7 @@ module _ {K : Type 0} (order : K → K → Ordering) (start : Start K) where
   pub record Sound (vals : K → Values K) (sets : List (Held K)) (s : State K) : Type 0 where
     pub own_same : s.own ≡ start.own
     pub config_same : s.config ≡ start.config
+    pub counted : start.config.dial_fail_limit < 2 ^ 64
     pub ordered : Ascending order s.records
     pub tied : (k : K) → Tied (is_own order start k) (vals k) (lookup order k s.records)
     pub primaries_so : (k : K) → (vals k).primary ≡ primary_count order k sets
@@ -106,6 +107,7 @@ module _ {K : Type 0} (order : K → K → Ordering) (lawful : Lawful order) (st
         record {
           own_same = h.own_same;
           config_same = h.config_same;
+          counted = h.counted;
           ordered = ascending-put order lawful j r s.records h.ordered;
           tied = tied-put r t;
           primaries_so = primaries-still;
@@ -121,6 +123,7 @@ module _ {K : Type 0} (order : K → K → Ordering) (lawful : Lawful order) (st
         record {
           own_same = h.own_same;
           config_same = h.config_same;
+          counted = h.counted;
           ordered = ascending-put order lawful j r s.records h.ordered;
           tied = tied-put r t;
           primaries_so = primaries-still;
@@ -133,7 +136,7 @@ module _ {K : Type 0} (order : K → K → Ordering) (lawful : Lawful order) (st
         right_bit : (r : Record K) → Tied (is_own order start j) (vals' j) (Some r) → wanted s.config.dial_fail_limit r ≡ wants order start vals' j
         right_bit r t =
             ap (λ c. wanted c.dial_fail_limit r) h.config_same
-            ∙ wanted-tied start.config.dial_fail_limit (is_own order start j) (vals' j) r start.config.counted t
+            ∙ wanted-tied start.config.dial_fail_limit (is_own order start j) (vals' j) r h.counted t
 
     -- a record that goes
     pub sound_erased : (r : Record K) → Tied (is_own order start j) (vals' j) None → Sound order start vals' sets (after_telling order s j (erase r))
@@ -141,6 +144,7 @@ module _ {K : Type 0} (order : K → K → Ordering) (lawful : Lawful order) (st
         record {
           own_same = h.own_same;
           config_same = h.config_same;
+          counted = h.counted;
           ordered = ascending-cut order lawful j s.records h.ordered;
           tied = tied-cut t;
           primaries_so = primaries-still;

@@ -87,7 +87,7 @@ module _ {K : Type 0} (order : K → K → Ordering) (lawful : Lawful order) (st
       known-tied k i =
           let e : lookup order k (joined order p q s.records) ≡ Some _ = lookup-joined order lawful k p q s.records a b ∙ ap (λ x. record_joined x (has order k q) (lookup order k s.records)) i in
           ap (λ o. wanted start.config.dial_fail_limit (unwrap_or o (fresh Unknown false))) e
-          ∙ wanted-tied start.config.dial_fail_limit (is_own order start k) (joined_values order start vals p q k) _ start.config.counted (subst (Tied (is_own order start k) (joined_values order start vals p q k)) e (tied-joined k))
+          ∙ wanted-tied start.config.dial_fail_limit (is_own order start k) (joined_values order start vals p q k) _ h.counted (subst (Tied (is_own order start k) (joined_values order start vals p q k)) e (tied-joined k))
 
       new_bits : (k : K) (bit : Bool) → lookup order k (new_set order s index p q).primary ≡ Some bit → bit ≡ not (wants order start (joined_values order start vals p q) k)
       new_bits k bit e =
@@ -101,6 +101,7 @@ module _ {K : Type 0} (order : K → K → Ordering) (lawful : Lawful order) (st
           record {
             own_same = h.own_same;
             config_same = h.config_same;
+            counted = h.counted;
             ordered = ascending-joined order lawful p q s.records h.ordered;
             tied = tied-joined;
             primaries_so = λ k. ap (one_more (has order k p)) (h.primaries_so k) ∙ sym (primary_push order k sets _);
@@ -145,6 +146,7 @@ module _ {K : Type 0} (order : K → K → Ordering) (lawful : Lawful order) (st
         record {
           own_same = h.own_same;
           config_same = h.config_same;
+          counted = h.counted;
           ordered = ascending-tidied order lawful oldest (left order oldest s.records) (ascending_left order lawful oldest s.records h.ordered);
           tied = tied_left;
           primaries_so = λ k. refl;

@@ -101,6 +101,7 @@ module _ {K : Type 0} (order : K → K → Ordering) (lawful : Lawful order) (st
     record {
       own_same = t.0.own_same;
       config_same = t.0.config_same;
+      counted = t.0.counted;
       ordered = t.0.ordered;
       tied = t.0.tied;
       primaries_so = t.0.primaries_so;

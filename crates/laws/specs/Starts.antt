@@ -1,5 +1,5 @@
 -- The states in which a directory may start, and the histories that lead on from them.
-use Rattle.std.specs.Prelude.{◌≡◌, ℕ, ◌≤◌, min, true, false, ◌||◌, List, [], ◌∷◌, length, is_some, Some, None, Option}
+use Rattle.std.specs.Prelude.{◌≡◌, ℕ, ◌^◌, ◌<◌, ◌≤◌, min, true, false, ◌||◌, List, [], ◌∷◌, length, is_some, Some, None, Option}
 use Rattle.std.specs.declared.cmp.Ordering.{Ordering}
 use Rattle.std.specs.List.{AllByRecursion}
 use Rattle.keys.specs.Order.{ascending}
@@ -68,6 +68,8 @@ module _ {K : Type 0} (order : K → K → Ordering) where
       pub settings : s.config ≡ start.config
       pub some_held : 1 ≤ start.config.max_sets
       pub few_held : start.config.max_sets ≤ 8
+      -- the limit is a number of 64 bits, like the failures that are counted against it
+      pub counted : start.config.dial_fail_limit < 2 ^ 64
       pub within : length start.sets ≤ start.config.max_sets
       pub proper : AllByRecursion Proper start.sets
       pub ordered : Ascending order s.records

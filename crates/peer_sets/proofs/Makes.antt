@@ -1,11 +1,10 @@
 -- A new set: its primaries, and the secondaries that are no primaries.
-use Rattle.std.proofs.Common.{◌≡◌, ℕ, ◌+◌, ◌<◌, ◌≤◌, Bool, true, false, cond, List, [], ◌∷◌, ◌++◌, length, get_or, drop, Some, Ordering, sym, refl, ap, ◌∙◌, arith}
+use Rattle.std.proofs.Common.{◌≡◌, ℕ, ◌+◌, ◌<◌, ◌≤◌, true, false, cond, List, [], ◌∷◌, ◌++◌, length, get_or, drop, Some, Ordering, sym, ap, ◌∙◌, arith}
 use Rattle.std.proofs.lemmas.List.{append_assoc, append-nil, length-append, at_drop_more, at_drop_all}
 use Rattle.std.proofs.lemmas.Bool.{cond-true, cond-false, and_from, and_right, le-leb, lt-leb}
 use Rattle.key_list.specs.Keys.{has, without}
-use Rattle.bit_set.specs.Members.{members, Fresh}
+use Rattle.bit_set.specs.Members.{Fresh}
 use Rattle.bit_set.specs.declared.bit_set.BitSet.{BitSet}
-use Rattle.model.specs.Sets.{primaries}
 use Rattle.peer_sets.specs.Held.{can_be_primary, Unmarked, can_make}
 use Rattle.peer_sets.proofs.Marks.{primaries-members}
 

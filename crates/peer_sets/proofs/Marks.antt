@@ -1,5 +1,5 @@
 -- The primaries of a set, by the keys and the bits that hold them.
-use Rattle.std.proofs.Common.{◌≡◌, ℕ, zero, suc, ◌+◌, ◌-◌, ◌<◌, ◌≤◌, Bool, true, false, cond, ◌||◌, List, [], ◌∷◌, map, length, get_or, replicate, is_some, Some, None, Option, Ordering, Less, Equal, Greater, sym, refl, ap, ◌∙◌, arith}
+use Rattle.std.proofs.Common.{◌≡◌, ℕ, zero, suc, ◌+◌, ◌-◌, ◌<◌, ◌≤◌, Bool, false, cond, ◌||◌, List, [], ◌∷◌, map, length, get_or, replicate, is_some, Some, None, Option, Ordering, Less, Equal, Greater, sym, refl, ap, ◌∙◌, arith}
 use Rattle.std.specs.List.{slice_get}
 use Rattle.std.proofs.lemmas.List.{length-replicate}
 use Rattle.types.specs.declared.bit_vec.BitVec.{BitVec}
@@ -8,7 +8,8 @@ use Rattle.bit_set.specs.Places.{keys_of, key_at, if_equal, place_of, paired}
 use Rattle.bit_set.specs.Members.{with_second, keys_in, bits_in, members, Updated}
 use Rattle.bit_set.specs.Members as bit-sets
 use Rattle.bit_set.specs.declared.bit_set.BitSet.{BitSet}
-use Rattle.model.specs.Sets.{primaries, marked}
+use Rattle.model.specs.Sets.{primaries}
+use Rattle.model.specs.There.{marked_first}
 use Rattle.peer_sets.specs.Held.{seconds, Carried}
 
 module _ {X : Type 0} where
@@ -103,7 +104,7 @@ module _ {K : Type 0} (order : K → K → Ordering) (key : K) where
   written_step Equal i m ps rest known h = let n : i - i ≡ 0 = omega arith in ap (λ d. with_second (m ∷ ps) d known) n
   written_step Greater i m ps rest known h = written_behind i m ps rest known h
 
-  written-marked : (ks : List K) (bits : List Bool) (i : ℕ) (known : Bool) → length bits ≡ length ks → written_from i (paired ks bits) (place_of order key i ks) known ≡ marked order key known (paired ks bits)
+  written-marked : (ks : List K) (bits : List Bool) (i : ℕ) (known : Bool) → length bits ≡ length ks → written_from i (paired ks bits) (place_of order key i ks) known ≡ marked_first order key known (paired ks bits)
   written-marked [] bits i known e = none (place_of order key i [])
     where
       none : (r : Option ℕ) → written_from i [] r known ≡ []
@@ -121,7 +122,7 @@ module _ {K : Type 0} (order : K → K → Ordering) (key : K) where
       let n : j ≡ j - 0 = omega arith in u.1.now_members ∙ ap (λ d. with_second (members before) d known) n
 
   -- a set after an update of a key's bit
-  pub marked-members : (before after : BitSet K) (known done : Bool) → Updated before after (place_of order key 0 (keys_in before)) known done → members after ≡ marked order key known (members before)
+  pub marked-members : (before after : BitSet K) (known done : Bool) → Updated before after (place_of order key 0 (keys_in before)) known done → members after ≡ marked_first order key known (members before)
   marked-members before after known done u =
       updated-members before after _ known done u ∙ written-marked (keys_in before) (bits_in before) 0 known before.enough
 

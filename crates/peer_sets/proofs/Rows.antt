@@ -1,5 +1,5 @@
 -- Sets in a row, oldest first: reading them, marking all, and entering one more.
-use Rattle.std.proofs.Common.{◌≡◌, ℕ, zero, suc, ◌+◌, ◌-◌, ◌%◌, ◌<◌, ◌≤◌, Bool, true, false, cond, ◌||◌, eqb, ltb, List, [], ◌∷◌, ◌++◌, map, length, get_or, take, drop, set, Some, None, Option, Ordering, sym, refl, ap, ◌∙◌, arith}
+use Rattle.std.proofs.Common.{◌≡◌, ℕ, zero, suc, ◌+◌, ◌%◌, ◌<◌, ◌≤◌, Bool, true, false, ◌||◌, eqb, ltb, List, [], ◌∷◌, ◌++◌, map, length, get_or, take, drop, set, Some, None, Ordering, sym, refl, ap, ◌∙◌, arith}
 use Rattle.std.specs.Option.{option_map}
 use Rattle.std.specs.List.{remove, slice_get}
 use Rattle.std.proofs.lemmas.List.Edits.{map_over_more}
@@ -7,8 +7,9 @@ use Rattle.std.proofs.lemmas.List.{length-map, length_push, get_or-map, map_push
 use Rattle.std.proofs.lemmas.Option.{slice_get-get_or, slice_get_past}
 use Rattle.std.proofs.lemmas.Bool.{cond-true, cond-false, lt-ltb, le-ltb}
 use Rattle.model.specs.Questions.{drawn_set}
-use Rattle.model.specs.Sets.{newest, set_at, is_held, marked_all}
+use Rattle.model.specs.Sets.{newest, set_at, is_held}
 use Rattle.model.specs.State.{PeerSet as Meant}
+use Rattle.model.specs.There.{marked_first_all}
 use Rattle.peer_sets.specs.Held.{set_of, held, marked_set, kept, leaving}
 use Rattle.peer_sets.specs.declared.peer_set.PeerSet.{PeerSet}
 use Rattle.peer_sets.specs.declared.peer_sets.PeerSets.{PeerSets}
@@ -184,7 +185,7 @@ module _ {K : Type 0} where
   -- a bit written in every set
 
   module _ (order : K → K → Ordering) (key : K) (known : Bool) where
-    marked_each : (ms : List (Meant K)) → map (marked_set order key known) ms ≡ marked_all order key known ms
+    marked_each : (ms : List (Meant K)) → map (marked_set order key known) ms ≡ marked_first_all order key known ms
     marked_each [] = refl
     marked_each (m ∷ ms) = ap (λ ns. marked_set order key known m ∷ ns) (marked_each ms)
 
@@ -196,15 +197,15 @@ module _ {K : Type 0} where
         ∙ map_over_more (marked_set order key known) ms (map set_of xs) i (set_of x) (omega arith) so
         (ap set_of here ∙ sym (get_or-map set_of xs i x (set_of x) h))
 
-    pub marked_first : (xs ys : List (PeerSet K)) (i n : ℕ) → n ≡ i → i ≤ length xs → map set_of ys ≡ map (marked_set order key known) (take i (map set_of xs)) ++ drop i (map set_of xs) → map set_of (take n ys) ≡ marked_all order key known (map set_of (take n xs))
-    marked_first xs ys i n e h so =
+    pub marked_through : (xs ys : List (PeerSet K)) (i n : ℕ) → n ≡ i → i ≤ length xs → map set_of ys ≡ map (marked_set order key known) (take i (map set_of xs)) ++ drop i (map set_of xs) → map set_of (take n ys) ≡ marked_first_all order key known (map set_of (take n xs))
+    marked_through xs ys i n e h so =
         let front : List (Meant K) = map (marked_set order key known) (take i (map set_of xs)) in
         let long : length front ≡ n = length-map (take i (map set_of xs)) (marked_set order key known) ∙ length-take-le i (map set_of xs) (omega (arith, length-map xs set_of)) ∙ sym e in
         sym (take-map set_of n ys)
         ∙ ap (take n) so
         ∙ take_at front (drop i (map set_of xs)) n long
         ∙ marked_each (take i (map set_of xs))
-        ∙ ap (marked_all order key known) (take-map set_of i xs ∙ ap (λ m. map set_of (take m xs)) (sym e))
+        ∙ ap (marked_first_all order key known) (take-map set_of i xs ∙ ap (λ m. map set_of (take m xs)) (sym e))
 
   -- at most eight sets are held
   pub few_held : (s : PeerSets K) → length (held s) ≤ 8

@@ -10,8 +10,9 @@ use Rattle.types.specs.declared.bit_vec.BitVec.{BitVec}
 use Rattle.bit_set.specs.Places.{paired}
 use Rattle.bit_set.specs.Members.{members, with_second}
 use Rattle.bit_set.specs.declared.bit_set.BitSet.{BitSet}
-use Rattle.model.specs.Sets.{primaries, marked}
+use Rattle.model.specs.Sets.{primaries}
 use Rattle.model.specs.State.{PeerSet as Meant}
+use Rattle.model.specs.There.{marked_first}
 use Rattle.peer_sets.specs.declared.peer_set.PeerSet.{PeerSet}
 use Rattle.peer_sets.specs.declared.peer_sets.PeerSets.{PeerSets}
 
@@ -43,7 +44,7 @@ module _ {K : Type 0} where
 module _ {K : Type 0} (order : K → K → Ordering) where
   -- the set with the bit of a key as given, if the key is among the primaries
   abbrev pub marked_set : K → Bool → Meant K → Meant K
-  marked_set key known s = record { index = s.index; primary = marked order key known s.primary; secondary = s.secondary }
+  marked_set key known s = record { index = s.index; primary = marked_first order key known s.primary; secondary = s.secondary }
 
   -- whether keys can be the primaries of a set: they ascend, and are at most 64
   abbrev pub can_be_primary : List K → Bool

@@ -3,7 +3,8 @@ ghost use Rattle.std.specs.List.{slice_get};
 ghost use Rattle.key_list.specs.Keys.{has, without};
 ghost use Rattle.key_list.specs.Members.{Made as Listed};
 ghost use Rattle.bit_set.specs.Members.{members};
-ghost use Rattle.model.specs.Sets.{primaries, marked};
+ghost use Rattle.model.specs.Sets.{primaries};
+ghost use Rattle.model.specs.There.{marked_first};
 ghost use Rattle.peer_sets.specs.Held.{Unmarked, Carried};
 
 use bit_set::BitSet;
@@ -62,7 +63,7 @@ pub(crate) fn has_key<K: OrderedKey>(primary: &BitSet<K>, key: &K) -> bool
 
 // Sets the bit of a key, if it is among the primaries.
 pub(crate) fn mark<K: OrderedKey>(primary: &mut BitSet<K>, key: &K, known: bool)
-    ensures { members primary.new ≡ marked K.OrderedKey.order key.now known (members primary.old) }
+    ensures { members primary.new ≡ marked_first K.OrderedKey.order key.now known (members primary.old) }
 {
     let _ = primary.update(key, known);
 }

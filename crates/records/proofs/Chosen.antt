@@ -1,5 +1,5 @@
 -- Walks over the entries of a table that collect the keys of those that pass a test, and that delete others.
-use Rattle.std.proofs.Common.{◌≡◌, ℕ, ◌+◌, ◌≤◌, Bool, true, false, cond, not, List, [], ◌∷◌, ◌++◌, length, take, drop, Some, None, Option, Ordering, sym, refl, ap, ◌∙◌, append_assoc}
+use Rattle.std.proofs.Common.{◌≡◌, ℕ, ◌+◌, ◌≤◌, Bool, true, false, cond, not, List, [], ◌∷◌, ◌++◌, length, take, drop, Some, Ordering, sym, refl, ap, ◌∙◌, append_assoc}
 use Rattle.std.specs.List.{slice_get}
 use Rattle.std.proofs.lemmas.List.{append-nil, drop_all, take_all}
 use Rattle.key_list.proofs.Walks.{drop_from_nth}
@@ -10,7 +10,8 @@ use Rattle.record.specs.declared.record.Record.{Record}
 use Rattle.key_list.proofs.Walks.{take_from_nth}
 use Rattle.tables.specs.Listings.{lookup, cut, keys_where, entries_where, Ascending}
 use Rattle.tables.proofs.Walks.{ascending-entries, walk_lookup, walk_keep, walk_cut}
-use Rattle.records.specs.Kept.{places_of, records_of, without_stale, TidiedOne, TidiedFirst, Tidied}
+use Rattle.joining.proofs.Wheres.{tidied-where}
+use Rattle.records.specs.Kept.{records_of, without_stale, TidiedOne, TidiedFirst, Tidied}
 use Rattle.records.specs.Ranks.{is_stale}
 use Rattle.model.specs.State.{PeerSet}
 use Rattle.records.specs.declared.records.Records.{Records}
@@ -85,6 +86,7 @@ module _ {K R : Type 0} (o : ordered.Ghosts K) (m : roll.Ghosts R K) (lawful : L
             first.now_records
             ∙ ap (λ xs. entries_where (λ k r. not (is_stale o.order set k r)) (take i es) ++ xs) (drop_all i es h)
             ∙ append-nil (entries_where (λ k r. not (is_stale o.order set k r)) (take i es))
-            ∙ ap (entries_where (λ k r. not (is_stale o.order set k r))) (take_all i es h);
+            ∙ ap (entries_where (λ k r. not (is_stale o.order set k r))) (take_all i es h)
+            ∙ sym (tidied-where o.order set es);
         emptied = first.emptied;
       }

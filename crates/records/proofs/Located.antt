@@ -5,7 +5,7 @@ use Rattle.std.proofs.lemmas.Option.{slice_get-get_or}
 use Rattle.keys.specs.Order.{Lawful}
 use Rattle.rolls.specs.Places.{at, Absent, Distinct, NoneEmpty}
 use Rattle.rolls.proofs.Tables.{within}
-use Rattle.tables.specs.Listings.{lookup, put, listing}
+use Rattle.tables.specs.Listings.{lookup, listing}
 use Rattle.tables.proofs.Entries.{length-put_new}
 use Rattle.tables.proofs.Listed.{lookup-listing, lookup_absent}
 

@@ -1,17 +1,18 @@
 -- Turns of the loops over the members of a set.
-use Rattle.std.proofs.Common.{◌≡◌, ℕ, suc, ◌+◌, ◌≤◌, Bool, true, false, cond, List, [], ◌∷◌, length, drop, is_some, Some, None, Option, Ordering, sym, ap, ◌∙◌, arith}
+use Rattle.std.proofs.Common.{◌≡◌, ℕ, suc, ◌+◌, ◌≤◌, Bool, true, false, cond, List, [], ◌∷◌, length, drop, is_some, Some, Ordering, sym, ap, ◌∙◌, arith}
 use Rattle.std.specs.List.{slice_get}
 use Rattle.std.proofs.lemmas.List.{drop_all}
 use Rattle.keys.specs.Order.{Lawful}
 use Rattle.keys.specs.declared.ordered_key.OrderedKey as ordered
 use Rattle.rolls.specs.declared.roll.Roll as roll
 use Rattle.record.specs.declared.record.Record.{Record}
-use Rattle.key_list.proofs.Walks.{drop_from_nth, past_from_nth}
+use Rattle.key_list.proofs.Walks.{drop_from_nth}
 use Rattle.tables.specs.Listings.{lookup, put}
-use Rattle.model.specs.Track.{known, newcomers, each, each_there}
+use Rattle.model.specs.There.{each_there}
+use Rattle.model.specs.Track.{known, newcomers, each}
 use Rattle.tables.proofs.Entries.{length-put_new}
 use Rattle.joining.proofs.Rooms.{length_each_le}
-use Rattle.records.specs.Kept.{places_of, records_of, Filled, Raised, RaisedAll, NoRoom, Lowered, LoweredAll}
+use Rattle.records.specs.Kept.{places_of, records_of, Raised, RaisedAll, NoRoom, Lowered, LoweredAll}
 use Rattle.records.specs.declared.records.Records.{Records}
 
 -- one key more is counted

@@ -12,7 +12,8 @@ use Rattle.tables.specs.Listings.{lookup, put, cut, entries_where}
 use Rattle.tables.specs.Tabled as table
 use Rattle.model.specs.Peers.{Turn, refuse, write, erase}
 use Rattle.model.specs.Calls.{turned, info_turn}
-use Rattle.model.specs.Track.{known, changed, newcomers, each, each_there, left, tidied}
+use Rattle.model.specs.There.{changed, each_there, left_there}
+use Rattle.model.specs.Track.{known, newcomers, each, tidied}
 use Rattle.records.specs.declared.full.PeersFull.{PeersFull}
 use Rattle.records.specs.Ranks.{is_stale}
 use Rattle.records.specs.declared.records.Records.{Records}
@@ -134,7 +135,7 @@ module _ {K R : Type 0} (m : roll.Ghosts R K) where
     -- members have left: those who have a record are in one set fewer
     pub record Left (before after : Records K R) (set : PeerSet K) : Type 0 where
       pub sound : Sound after
-      pub now_records : records_of after ≡ left o.order set (records_of before)
+      pub now_records : records_of after ≡ left_there o.order set (records_of before)
       pub same_places : places_of after ≡ places_of before
 
     -- the records without that of a key, if it is stale

@@ -2,7 +2,8 @@ ghost use Rattle.std.specs.Prelude.{◌≡◌, ℕ, ◌≤◌, [], ◌∷◌, �
 ghost use Rattle.std.specs.Option.{option_map};
 ghost use Rattle.std.specs.List.{slice_get};
 ghost use Rattle.model.specs.Questions.{drawn_set};
-ghost use Rattle.model.specs.Sets.{newest as newest_of, set_at, is_held, marked_all};
+ghost use Rattle.model.specs.Sets.{newest as newest_of, set_at, is_held};
+ghost use Rattle.model.specs.There.{marked_first_all};
 ghost use Rattle.peer_sets.specs.Held.{set_of, held, kept, leaving};
 
 use super::{MOST_SETS, PLACES, PeerSets};
@@ -15,7 +16,7 @@ fn mark_first<K: OrderedKey>(sets: &mut [PeerSet<K>; PLACES], count: usize, key:
     requires whole { length sets.old ≡ 9 }
     requires few { count ≤ 8 }
     ensures whole { length sets.new ≡ 9 }
-    ensures marked { map set_of (take count sets.new) ≡ marked_all K.OrderedKey.order key.now known (map set_of (take count sets.old)) }
+    ensures marked { map set_of (take count sets.new) ≡ marked_first_all K.OrderedKey.order key.now known (map set_of (take count sets.old)) }
 {
     for i in 0..count {
         let mut set = sets[i];
@@ -125,7 +126,7 @@ impl<K: OrderedKey> PeerSets<K> {
 
     // Sets whether the information of a peer is known, in every set that has it as a primary.
     pub fn update(&mut self, key: &K, known: bool)
-        ensures { held self.new ≡ marked_all K.OrderedKey.order key.now known (held self.old) }
+        ensures { held self.new ≡ marked_first_all K.OrderedKey.order key.now known (held self.old) }
     {
         mark_first(&mut self.sets, self.count, key, known);
     }

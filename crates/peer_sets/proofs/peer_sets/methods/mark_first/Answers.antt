@@ -1,7 +1,7 @@
 use Rattle.std.proofs.Common.{◌<◌, map, ◌∙◌, arith, rules}
 use Rattle.std.proofs.lemmas.List.{length-map, length-set}
 use Rattle.peer_sets.specs.Held.{set_of}
-use Rattle.peer_sets.proofs.Rows.{marked_more, marked_first}
+use Rattle.peer_sets.proofs.Rows.{marked_more, marked_through}
 use Rattle.peer_sets.proofs.peer_sets.methods.mark_first.Goals as goal
 
 pub offset_bounds-sets-i : goal.offset_bounds-sets-i
@@ -21,5 +21,5 @@ pub returns : goal.returns
 returns g c =
     record {
       whole = c.loop-i.invariant.0;
-      marked = marked_first g.K.OrderedKey.order c.args.key.now c.args.known c.args.sets.now c.loop-i.sets c.loop-i.i c.args.count (omega arith) (omega arith) c.loop-i.invariant.1;
+      marked = marked_through g.K.OrderedKey.order c.args.key.now c.args.known c.args.sets.now c.loop-i.sets c.loop-i.i c.args.count (omega arith) (omega arith) c.loop-i.invariant.1;
     }

@@ -1,4 +1,4 @@
-use Rattle.std.proofs.Common.{◌≡◌, ℕ, Some, None, Option}
+use Rattle.std.proofs.Common.{ℕ, Some, None, Option}
 use Rattle.rolls.specs.Places.{Found}
 use Rattle.tables.proofs.Listed.{lookup_absent}
 use Rattle.records.specs.Kept.{Located}

@@ -2,8 +2,7 @@ use Rattle.std.proofs.Common.{ap, ◌∙◌}
 use Rattle.record.specs.Records.{primary_down, secondary_down}
 use Rattle.key_list.specs.Members.{keys_in}
 use Rattle.peer_sets.specs.Held.{set_of}
-use Rattle.model.specs.Sets.{primaries}
-use Rattle.model.specs.Track.{each_there}
+use Rattle.model.specs.There.{each_there}
 use Rattle.records.specs.Kept.{records_of}
 use Rattle.records.proofs.records.Records.leave.Goals as goal
 

@@ -1,7 +1,7 @@
 use Rattle.std.proofs.Common.{sym, arith}
 use Rattle.key_list.specs.Members.{keys_in}
 use Rattle.key_list.proofs.Rows.{few-keys}
-use Rattle.key_list.proofs.Walks.{past_from_nth, within_from_nth}
+use Rattle.key_list.proofs.Walks.{past_from_nth}
 use Rattle.records.specs.Kept.{records_of}
 use Rattle.records.proofs.Steps.{newcomers_more, newcomers_all}
 use Rattle.records.proofs.records.Records.newcomers.Goals as goal

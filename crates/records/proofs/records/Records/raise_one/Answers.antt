@@ -1,7 +1,7 @@
 use Rattle.std.proofs.Common.{◌≡◌, true, is_err, Ok, Err, Result}
 use Rattle.std.proofs.lemmas.Bool.{false≢true}
 use Rattle.tables.proofs.Listed.{lookup_absent}
-use Rattle.records.specs.Kept.{RaiseAnswer, NoRoom}
+use Rattle.records.specs.Kept.{RaiseAnswer}
 use Rattle.records.specs.Ranks.{raised}
 use Rattle.records.specs.declared.full.PeersFull.{PeersFull}
 use Rattle.records.proofs.Located.{full-listing}

@@ -1,6 +1,5 @@
 use Rattle.std.proofs.Common.{length, sym, ap, ◌∙◌, arith}
 use Rattle.std.specs.List.{slice_get}
-use Rattle.key_list.specs.Members.{keys_in}
 use Rattle.key_list.proofs.Walks.{past_from_nth}
 use Rattle.tables.proofs.Walks.{length-keys, entry_from_key, no_entry_from_key}
 use Rattle.peer_sets.specs.Held.{set_of}

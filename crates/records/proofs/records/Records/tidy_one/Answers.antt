@@ -1,8 +1,7 @@
 use Rattle.std.proofs.Common.{cond, sym, ap, ◌∙◌}
-use Rattle.rolls.specs.Places.{at}
 use Rattle.peer_sets.specs.Held.{set_of}
 use Rattle.tables.specs.Listings.{cut}
-use Rattle.records.specs.Kept.{places_of, records_of, Emptied, without_stale}
+use Rattle.records.specs.Kept.{places_of, records_of, without_stale}
 use Rattle.records.proofs.Joins.{emptied_to}
 use Rattle.records.proofs.records.Records.tidy_one.Goals as goal
 

@@ -4,6 +4,7 @@ use Rattle.key_list.proofs.Rows.{few-keys}
 use Rattle.key_list.proofs.Walks.{past_from_nth}
 use Rattle.tables.proofs.Walks.{length-keys}
 use Rattle.peer_sets.specs.Held.{set_of}
+use Rattle.joining.proofs.Wheres.{to_close-where}
 use Rattle.records.specs.Kept.{records_of}
 use Rattle.records.specs.Ranks.{is_cut_off}
 use Rattle.records.proofs.Chosen.{chosen_more, chosen_all}
@@ -26,9 +27,11 @@ returns-in_default g c sound =
     let es = records_of g.R.Roll g.K.OrderedKey c.args.self.now in
     chosen_all (is_cut_off g.K.OrderedKey.order (set_of c.args.members.now)) es c.loop-i.i (keys_in c.loop-i.named) (c.loop-i.invariant.1 sound)
     (past_from_nth es c.loop-i.i (sym (c.in_default.ensures sound (c.keys-keys.ensures sound))))
+    ∙ sym (to_close-where g.K.OrderedKey.order (set_of c.args.members.now) es)
 
 pub returns : goal.returns
 returns g c sound =
     let es = records_of g.R.Roll g.K.OrderedKey c.args.self.now in
     chosen_all (is_cut_off g.K.OrderedKey.order (set_of c.args.members.now)) es c.loop-i.i (keys_in c.loop-i.named) (c.loop-i.invariant.1 sound)
     (omega (arith, c.len-i-end.ensures, ap length (c.keys-keys.ensures sound), length-keys es, c.loop-i-test.false))
+    ∙ sym (to_close-where g.K.OrderedKey.order (set_of c.args.members.now) es)

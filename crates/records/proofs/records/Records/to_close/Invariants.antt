@@ -1,6 +1,6 @@
 use Rattle.std.proofs.Common.{◌≡◌, ◌≤◌, ◌++◌, length, drop}
 use Rattle.key_list.specs.Members.{keys_in}
-use Rattle.tables.specs.Listings.{keys, keys_where}
+use Rattle.tables.specs.Listings.{keys_where}
 use Rattle.peer_sets.specs.Held.{set_of}
 use Rattle.records.specs.Kept.{Sound, records_of}
 use Rattle.records.specs.Ranks.{is_cut_off}
