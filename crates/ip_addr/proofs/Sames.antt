@@ -17,7 +17,7 @@ same_v4 a b e = λ i. record { octets = e i; whole = is_prop→PathP (λ i. leng
 pub same_v6 : (a b : Ipv6Addr) → a.octets ≡ b.octets → a ≡ b
 same_v6 a b e = λ i. record { octets = e i; whole = is_prop→PathP (λ i. length (e i) ≡ 16) (λ i. ℕ_set (length (e i)) 16) a.whole b.whole i }
 
--- `same-ip` is true exactly if the two addresses are equal
+-- `same_ip` is true exactly if the two addresses are equal
 pub same_ip_decides : (a b : IpAddr) → Decides (same_ip a b) (a ≡ b)
 same_ip_decides (V4 a) (V4 b) = Decides-like _ (λ e. ap V4 (same_v4 a b e)) (λ e. ap octets_of e) (bytes_eq-Decides a.octets b.octets)
 same_ip_decides (V4 a) (V6 b) = (λ t. absurd (false≢true t), λ e. absurd (let z : ◌≡◌ {A = ℕ} 0 1 = cc in omega arith))

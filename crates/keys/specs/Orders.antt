@@ -1,5 +1,5 @@
 -- The laws of the comparisons, and the steps of a list that ascends.
-use Rattle.std.specs.Prelude.{◌≡◌, ℕ, zero, suc, ◌+◌, ◌-◌, ◌<◌, ◌≤◌, true, false, ◌&&◌, ◌⊎◌, List, [], ◌∷◌, length, get_or, drop, ◌≢◌, slice_index, slice_index_or, refl}
+use Rattle.std.specs.Prelude.{◌≡◌, ℕ, zero, suc, ◌+◌, ◌-◌, ◌<◌, ◌≤◌, true, false, ◌&&◌, ◌⊎◌, List, [], ◌∷◌, length, drop, ◌≢◌, slice_index, slice_index_or, refl}
 use Rattle.std.specs.declared.cmp.Ordering.TheVariants.{Less, Equal, Greater}
 use Rattle.std.specs.declared.cmp.Ordering.{Ordering}
 use Rattle.std.proofs.Common.{sym, ◌∙◌, ap, inl, inr, ⊎_elim, arith}
@@ -118,17 +118,17 @@ pub ranked_lawful : Lawful ranked
 ranked_lawful = record { flips = ranked-flips; chains = ranked-chains; itself = ranked_equal; same = same_from_ranked }
 
 -- what is left of two lists that are as long: the first numbers decide, or else the rest
-module _ (xs ys : List ℕ) (i : ℕ) (in-xs : i < length xs) (in_ys : i < length ys) where
+module _ (xs ys : List ℕ) (i : ℕ) (in_xs : i < length xs) (in_ys : i < length ys) where
   lexical_rest : lexical (drop i xs) (drop i ys) ≡ then_by (ranked (slice_index xs i) (slice_index ys i)) (lexical (drop (i + 1) xs) (drop (i + 1) ys))
-  lexical_rest = let p = drop_more xs i 0 in-xs in let q = drop_more ys i 0 in_ys in cc
+  lexical_rest = let p = drop_more xs i 0 in_xs in let q = drop_more ys i 0 in_ys in cc
 
-  pub lexical_less : get_or xs i 0 < slice_index ys i → lexical (drop i xs) (drop i ys) ≡ Less
+  pub lexical_less : slice_index xs i < slice_index ys i → lexical (drop i xs) (drop i ys) ≡ Less
   lexical_less h = lexical_rest ∙ less_then _ _ (ranked_less _ _ h)
 
-  pub lexical_greater : get_or ys i 0 < slice_index xs i → lexical (drop i xs) (drop i ys) ≡ Greater
+  pub lexical_greater : slice_index ys i < slice_index xs i → lexical (drop i xs) (drop i ys) ≡ Greater
   lexical_greater h = lexical_rest ∙ ap (λ o. then_by o (lexical (drop (i + 1) xs) (drop (i + 1) ys))) (ranked_greater _ _ h)
 
-  pub lexical_more : get_or xs i 0 ≡ slice_index ys i → lexical (drop i xs) (drop i ys) ≡ lexical (drop (i + 1) xs) (drop (i + 1) ys)
+  pub lexical_more : slice_index xs i ≡ slice_index ys i → lexical (drop i xs) (drop i ys) ≡ lexical (drop (i + 1) xs) (drop (i + 1) ys)
   lexical_more e = lexical_rest ∙ equal_then _ _ (ap (λ x. ranked x (slice_index ys i)) e ∙ ranked_equal (slice_index ys i))
 
 -- keys compared by a part of theirs that tells them apart

@@ -1,4 +1,4 @@
-ghost use Rattle.std.specs.Prelude.{◌≡◌, ◌<◌, ◌≤◌, length, set, is_some, MatchOption, nat_lt, slice_set};
+ghost use Rattle.std.specs.Prelude.{◌≡◌, ◌<◌, ◌≤◌, length, is_some, MatchOption, nat_lt, slice_set};
 ghost use Rattle.types.specs.Bits.{bits as list_of, bit_at, low_bits, Blank, Written};
 
 use super::BitVec;
