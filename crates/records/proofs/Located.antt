@@ -1,5 +1,5 @@
 -- A look-up by the place at which a key stands.
-use Rattle.std.proofs.Common.{◌≡◌, ℕ, zero, suc, ◌<◌, List, [], ◌∷◌, length, Some, None, Option, Ordering, sym, refl, ap, ◌∙◌, arith}
+use Rattle.std.proofs.Common.{◌≡◌, ℕ, zero, suc, ◌<◌, List, [], ◌∷◌, length, Some, None, Option, Ordering, get_or, sym, refl, ap, ◌∙◌, arith}
 use Rattle.std.specs.List.{slice_get}
 use Rattle.std.proofs.lemmas.Option.{slice_get-get_or}
 use Rattle.keys.specs.Order.{Lawful}
@@ -19,6 +19,14 @@ module _ {K V : Type 0} (order : K → K → Ordering) (lawful : Lawful order) w
       let inside : p < length ps = within ps p k e in
       let d : V = some_of vs (omega arith) in
       lookup-listing order lawful ps vs p k d long distinct e ∙ sym (slice_get-get_or vs p d (omega arith))
+
+  -- a key that stands at a place has an entry
+  pub recorded : (ps : List (Option K)) (vs : List V) (p : ℕ) (k : K) → length vs ≡ length ps → Distinct ps → at ps p ≡ Some k → lookup order k (listing order ps vs) ≡ None → ⊥
+  recorded ps vs p k long distinct e none =
+      let inside : p < length ps = within ps p k e in
+      let d : V = some_of vs (omega arith) in
+      let both : Some (get_or vs p d) ≡ None = sym (lookup-listing order lawful ps vs p k d long distinct e) ∙ none in
+      cc
 
   -- where no place is empty there are as many entries as places
   pub full-listing : (ps : List (Option K)) (vs : List V) → length vs ≡ length ps → Distinct ps → NoneEmpty ps → length (listing order ps vs) ≡ length ps

@@ -21,7 +21,8 @@ impl<K: OrderedKey, R: Roll<K>> Records<K, R> {
 
     // Writes the record of a peer, if it has one.
     pub fn write(&mut self, key: &K, record: Record<K>)
-        ensures { Sound R.Roll self.old → is_some (lookup K.OrderedKey.order key.now (records_of R.Roll K.OrderedKey.own self.old)) ≡ true → Written R.Roll K.OrderedKey.own self.old self.new key.now «record» }
+        ensures written { Sound R.Roll self.old → is_some (lookup K.OrderedKey.order key.now (records_of R.Roll K.OrderedKey.own self.old)) ≡ true → Written R.Roll K.OrderedKey.own self.old self.new key.now «record» }
+        ensures absent_changes_nothing { Sound R.Roll self.old → lookup K.OrderedKey.order key.now (records_of R.Roll K.OrderedKey.own self.old) ≡ None → self.new ≡ self.old }
     {
         let Some(place) = self.find(key) else {
             return;
@@ -31,7 +32,8 @@ impl<K: OrderedKey, R: Roll<K>> Records<K, R> {
 
     // Writes or erases the record of a peer, if it has one.
     pub fn settle(&mut self, key: &K, turn: Turn<K>)
-        ensures { Sound R.Roll self.old → is_some (lookup K.OrderedKey.order key.now (records_of R.Roll K.OrderedKey.own self.old)) ≡ true → Settled R.Roll K.OrderedKey.own self.old self.new key.now (taken turn) }
+        ensures settled { Sound R.Roll self.old → is_some (lookup K.OrderedKey.order key.now (records_of R.Roll K.OrderedKey.own self.old)) ≡ true → Settled R.Roll K.OrderedKey.own self.old self.new key.now (taken turn) }
+        ensures absent_changes_nothing { Sound R.Roll self.old → lookup K.OrderedKey.order key.now (records_of R.Roll K.OrderedKey.own self.old) ≡ None → self.new ≡ self.old }
     {
         let Some(place) = self.find(key) else {
             return;

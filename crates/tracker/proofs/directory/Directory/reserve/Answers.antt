@@ -7,7 +7,7 @@ returns g c =
     record {
       reserving =
           λ sound there.
-          let w = c.write.ensures sound.records_sound there in
+          let w = c.write.ensures.written sound.records_sound there in
           record {
             sound = record { records_sound = w.sound; blocks_sound = sound.blocks_sound; some_sets = sound.some_sets; few_sets = sound.few_sets; sets_proper = sound.sets_proper };
             leaves = same_state _ _ refl refl (ap length w.same_places) refl w.now_records refl refl;

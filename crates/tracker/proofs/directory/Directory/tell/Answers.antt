@@ -12,7 +12,7 @@ returns g c sound there =
     let d = c.args.self.now in
     let o = g.K.OrderedKey in
     let k = c.args.key.now in
-    let w = c.settle.ensures sound.records_sound there in
+    let w = c.settle.ensures.settled sound.records_sound there in
     record {
       sound =
           record {
