@@ -40,6 +40,12 @@ is_less Less = true
 is_less Equal = false
 is_less Greater = false
 
+-- whether an answer is equal
+abbrev pub is_equal : Ordering → Bool
+is_equal Less = false
+is_equal Equal = true
+is_equal Greater = false
+
 module _ {K : Type 0} (order : K → K → Ordering) where
   -- whether a key is below the first of a list; where the list is empty it is
   abbrev pub below_first : K → List K → Bool

@@ -1,6 +1,6 @@
 ghost use Rattle.std.specs.Prelude.{◌≡◌};
 ghost use Rattle.std.specs.declared.cmp.Ordering.{Ordering};
-ghost use Rattle.keys.specs.Order.{Lawful, ascending};
+ghost use Rattle.keys.specs.Order.{Lawful, is_less, is_equal, ascending};
 
 use super::key::Key;
 use std::cmp::Ordering;
@@ -14,6 +14,20 @@ pub trait OrderedKey: Key {
     fn compare(&self, other: &Self) -> Ordering
         ensures { result ≡ order self.now other.now };
 
+    // Whether this key is the other one.
+    fn is_same(&self, other: &Self) -> bool
+        ensures { result ≡ is_equal (order self.now other.now) }
+    {
+        self.compare(other).is_eq()
+    }
+
+    // Whether this key is below the other.
+    fn is_below(&self, other: &Self) -> bool
+        ensures { result ≡ is_less (order self.now other.now) }
+    {
+        self.compare(other).is_lt()
+    }
+
     ghost lawful: { Lawful order };
 }
 
@@ -21,11 +35,5 @@ pub trait OrderedKey: Key {
 pub fn is_ascending<K: OrderedKey>(keys: &[K]) -> bool
     ensures { result ≡ ascending K.OrderedKey.order keys.now }
 {
-    for i in 1..keys.len() {
-        match keys[i - 1].compare(&keys[i]) {
-            Ordering::Less => {}
-            _ => return false,
-        }
-    }
-    true
+    keys.is_sorted_by(|a, b| a.is_below(b))
 }

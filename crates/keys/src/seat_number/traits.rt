@@ -34,12 +34,12 @@ impl Key for SeatNumber {
     }
 
     fn read(bytes: &[u8]) -> Option<SeatNumber> {
-        match <[u8; 8]>::try_from(bytes) {
-            Ok(bytes) => Some(SeatNumber {
-                number: u64::from_be_bytes(bytes),
-            }),
-            Err(_) => None,
-        }
+        let Ok(bytes) = <[u8; 8]>::try_from(bytes) else {
+            return None;
+        };
+        Some(SeatNumber {
+            number: u64::from_be_bytes(bytes),
+        })
     }
 }
 
@@ -50,14 +50,7 @@ impl OrderedKey for SeatNumber {
     ghost lawful = { lawful_by (λ k. k.number) ranked same_seat ranked_lawful };
 
     fn compare(&self, other: &SeatNumber) -> Ordering {
-        let (a, b) = (self.number, other.number);
-        if a < b {
-            Ordering::Less
-        } else if a == b {
-            Ordering::Equal
-        } else {
-            Ordering::Greater
-        }
+        self.number.cmp(&other.number)
     }
 }
 

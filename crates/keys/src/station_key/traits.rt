@@ -33,10 +33,10 @@ impl Key for StationKey {
     }
 
     fn read(bytes: &[u8]) -> Option<StationKey> {
-        match <[u8; 32]>::try_from(bytes) {
-            Ok(bytes) => Some(StationKey { bytes }),
-            Err(_) => None,
-        }
+        let Ok(bytes) = <[u8; 32]>::try_from(bytes) else {
+            return None;
+        };
+        Some(StationKey { bytes })
     }
 }
 
@@ -47,16 +47,7 @@ impl OrderedKey for StationKey {
     ghost lawful = { lawful_by (λ k. k.bytes) lexical same_station lexical_lawful };
 
     fn compare(&self, other: &StationKey) -> Ordering {
-        for i in 0..32 {
-            let (a, b) = (self.bytes[i], other.bytes[i]);
-            if a < b {
-                return Ordering::Less;
-            }
-            if a > b {
-                return Ordering::Greater;
-            }
-        }
-        Ordering::Equal
+        self.bytes.cmp(&other.bytes)
     }
 }
 

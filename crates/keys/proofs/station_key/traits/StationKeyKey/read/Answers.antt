@@ -1,5 +1,5 @@
 use Rattle.keys.specs.Forms.{station_from}
 use Rattle.keys.proofs.station_key.traits.StationKeyKey.read.Goals as goal
 
-pub returns-in-Ok : goal.returns-in-Ok
-returns-in-Ok c = station_from c.args.bytes.now _ c.in-Ok.ensures.1.same
+pub returns : goal.returns
+returns c = station_from c.args.bytes.now _ c.in-Ok.ensures.1.same
