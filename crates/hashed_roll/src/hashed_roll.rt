@@ -1,13 +1,14 @@
-ghost use Rattle.std.specs.Prelude.{◌≡◌, ◌<◌, length, IfOk, slice_set};
-ghost use Rattle.rolls.specs.Places.{at, Made};
+ghost use Rattle.std.specs.Prelude.{◌≡◌, ◌<◌, true, false, List, length, slice_set};
+ghost use Rattle.rolls.specs.Places.{at, RightSize, Made};
 ghost use Rattle.hashed_roll.specs.Slots.{place_of, places_of, slot_at};
-ghost use Rattle.hashed_roll.specs.Probing.{home_of, Sound, AllUnused, Vacancy, Suits};
-ghost use Rattle.hashed_roll.specs.Tables.{sound-proper};
+ghost use Rattle.hashed_roll.specs.Probing.{home_of, Sound, Vacancy, Suits};
+ghost use Rattle.hashed_roll.specs.declared.slot.Slot.{Slot};
 
 use super::slot::Slot;
 use keys::HashedKey;
 use rolls::{Roll, RollFault};
-use std::alloc::{AllocError, Global};
+use std::alloc::Global;
+use std::marker::Model;
 
 // The most places that a roll can have.
 const MOST_PLACES: usize = 64;
@@ -15,8 +16,25 @@ const MOST_PLACES: usize = 64;
 // A roll whose keys are looked up from the slot that their hash names. A key that finds that slot
 // taken goes on to the next, and after the last slot comes the first.
 #[derive(Drop)]
-pub struct HashedRoll<K> {
+pub struct HashedRoll<K: HashedKey> {
     slots: Vec<Slot<K>>,
+}
+
+// A roll is seen as its slots, and they are sound.
+impl<K: HashedKey> Model for HashedRoll<K> {
+    ghost Value = { List (Slot K) };
+
+    ghost view = { λ s. s.slots.items };
+
+    ghost invariant = { λ s. Sound K.HashedKey.hashed s.slots.items };
+}
+
+// Whether a roll can have this many places.
+fn is_right(size: usize) -> bool
+    ensures right { result ≡ true → RightSize size }
+    ensures wrong { result ≡ false → RightSize size → ⊥ }
+{
+    (1..=MOST_PLACES).contains(&size)
 }
 
 // The home of a key: the slot where its lookup begins. Where there are no slots it is 0.
@@ -30,86 +48,52 @@ fn home<K: HashedKey>(key: &K, size: usize) -> usize
     (key.hash() % size as u64) as usize
 }
 
-// So many slots, all unused.
-fn unused_slots<K: HashedKey>(heap: Global, size: usize) -> Result<Vec<Slot<K>>, AllocError>
-    ensures { IfOk result (λ v. AllUnused K.HashedKey.hashed size v.items) }
-{
-    let mut slots = Vec::new(heap);
-    for _slot in 0..size {
-        slots.push(Slot::Unused)?;
-    }
-    Ok(slots)
-}
-
 impl<K: HashedKey> HashedRoll<K> {
     // A roll of this many places, all empty.
     pub fn new(heap: Global, size: usize) -> Result<Self, RollFault>
-        ensures { Made (λ s. Sound K.HashedKey.hashed s.slots.items) (λ s. places_of s.slots.items) size result }
+        ensures { Made (Sound K.HashedKey.hashed) places_of size result }
     {
-        if size < 1 || size > MOST_PLACES {
+        if !is_right(size) {
             return Err(RollFault::BadSize);
         }
-        match unused_slots(heap, size) {
-            Ok(slots) => Ok(HashedRoll { slots }),
-            Err(_) => Err(RollFault::OutOfMemory),
-        }
-    }
-
-    // How many slots there are.
-    fn slot_count(&self) -> usize
-        ensures { result ≡ length (places_of self.now.slots.items) }
-    {
-        self.slots.len()
+        let slots = vec![in heap; Slot::Unused; size]?;
+        Ok(HashedRoll { slots })
     }
 
     // The slot with a number. A number past the end is taken as an unused slot.
     fn slot(&self, number: usize) -> Slot<K>
-        ensures there { result ≡ slot_at self.now.slots.items number }
-        ensures place { place_of result ≡ at (places_of self.now.slots.items) number }
+        ensures there { result ≡ slot_at self.now number }
+        ensures place { place_of result ≡ at (places_of self.now) number }
     {
-        if number < self.slots.len() {
-            self.slots[number]
-        } else {
-            Slot::Unused
-        }
+        self.slots.get(number).copied().unwrap_or(Slot::Unused)
     }
 
-    // Puts a slot in place of the one with a number. Past the end it changes nothing.
+    // Puts a slot that suits in place of the one with a number.
     fn put(&mut self, number: usize, slot: Slot<K>)
-        ensures placed { places_of self.new.slots.items ≡ slice_set (places_of self.old.slots.items) number (place_of slot) }
-        ensures stays_sound { Sound K.HashedKey.hashed self.old.slots.items → Suits K.HashedKey.hashed self.old.slots.items number slot → Sound K.HashedKey.hashed self.new.slots.items }
+        requires within { number < length self.old }
+        requires suits { Suits K.HashedKey.hashed self.old number slot }
+        ensures { places_of self.new ≡ slice_set (places_of self.old) number (place_of slot) }
     {
-        if number >= self.slots.len() {
-            return;
-        }
         self.slots[number] = slot;
     }
 
     // The first empty slot on the way round from the key's home, or none.
     fn vacancy(&self, key: &K) -> Option<usize>
-        ensures { Vacancy K.HashedKey.hashed self.now.slots.items key.now result }
+        ensures { Vacancy K.HashedKey.hashed self.now key.now result }
     {
         let size = self.slots.len();
-        let mut at = home(key, size);
-        for _seen in 0..size {
-            if self.slot(at).is_empty() {
-                return Some(at);
-            }
-            at = if at + 1 == size { 0 } else { at + 1 };
-        }
-        None
+        let home = home(key, size);
+        (home..size)
+            .chain(0..home)
+            .find(|at| self.slot(*at).is_empty())
     }
 }
 
 impl<K: HashedKey> Roll<K> for HashedRoll<K> {
-    ghost places = { λ s. places_of s.slots.items };
-
-    ghost sound = { λ s. Sound K.HashedKey.hashed s.slots.items };
-
-    ghost proper = { λ s sound. sound-proper K.HashedKey.hashed s.slots.items sound };
+    ghost places = { places_of };
 
     fn size(&self) -> usize {
-        self.slot_count()
+        self.slots.len()
     }
 
     fn key_at(&self, place: usize) -> Option<K> {
@@ -121,7 +105,7 @@ impl<K: HashedKey> Roll<K> for HashedRoll<K> {
         let size = self.slots.len();
         let mut at = home(key, size);
         let mut seen = 0;
-        let answer = loop {
+        loop {
             if seen == size {
                 break None;
             }
@@ -134,25 +118,20 @@ impl<K: HashedKey> Roll<K> for HashedRoll<K> {
             }
             at = if at + 1 == size { 0 } else { at + 1 };
             seen += 1;
-        };
-        answer
+        }
     }
 
     fn enter(&mut self, key: K) -> Result<usize, RollFault> {
         if let Some(place) = self.find(&key) {
             return Ok(place);
         }
-        let Some(place) = self.vacancy(&key) else {
-            return Err(RollFault::Full);
-        };
+        let place = self.vacancy(&key).ok_or(RollFault::Full)?;
         self.put(place, Slot::Held(key));
         Ok(place)
     }
 
     fn strike(&mut self, place: usize) -> Result<(), RollFault> {
-        let Some(_) = self.key_at(place) else {
-            return Err(RollFault::Vacant);
-        };
+        self.key_at(place).ok_or(RollFault::Vacant)?;
         self.put(place, Slot::Struck);
         Ok(())
     }

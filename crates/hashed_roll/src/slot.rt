@@ -2,7 +2,6 @@ ghost use Rattle.std.specs.Prelude.{◌≡◌};
 ghost use Rattle.hashed_roll.specs.Slots.{place_of, is_unused, is_empty, Has};
 
 use keys::OrderedKey;
-use std::cmp::Ordering;
 
 // A slot of a hashed roll is one of its places, with what a lookup has to know of it.
 #[derive(Clone, Copy)]
@@ -20,9 +19,9 @@ impl<K: OrderedKey> Slot<K> {
     pub fn key(&self) -> Option<K>
         ensures { result ≡ place_of self.now }
     {
-        match self {
+        match *self {
             Slot::Unused | Slot::Struck => None,
-            Slot::Held(key) => Some(*key),
+            Slot::Held(key) => Some(key),
         }
     }
 
@@ -30,32 +29,20 @@ impl<K: OrderedKey> Slot<K> {
     pub fn is_empty(&self) -> bool
         ensures { result ≡ is_empty self.now }
     {
-        match self {
-            Slot::Unused | Slot::Struck => true,
-            Slot::Held(_) => false,
-        }
+        matches!(self, Slot::Unused | Slot::Struck)
     }
 
     // Whether no key has stood here yet.
     pub fn is_unused(&self) -> bool
         ensures { result ≡ is_unused self.now }
     {
-        match self {
-            Slot::Unused => true,
-            Slot::Struck | Slot::Held(_) => false,
-        }
+        matches!(self, Slot::Unused)
     }
 
     // Whether this key stands here.
     pub fn has(&self, key: &K) -> bool
         ensures { Has self.now key.now result }
     {
-        match self {
-            Slot::Unused | Slot::Struck => false,
-            Slot::Held(other) => match other.compare(key) {
-                Ordering::Equal => true,
-                Ordering::Less | Ordering::Greater => false,
-            },
-        }
+        matches!(self, Slot::Held(held) if held.is_same(key))
     }
 }

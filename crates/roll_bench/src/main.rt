@@ -2,13 +2,12 @@
 
 // Finds and enters a second of both rolls at 64 places, for both kinds of key. With no argument it
 // does nothing; with one it takes that many rounds.
-use anyhow::anyhow;
 use hashed_roll::HashedRoll;
 use keys::{OrderedKey, SeatNumber, StationKey};
 use rolls::{Roll, RollFault};
 use sorted_roll::SortedRoll;
-use std::env;
 use std::time::Instant;
+use std::{array, env};
 
 const PLACES: usize = 64;
 
@@ -17,45 +16,23 @@ fn mixed(i: u64) -> u64 {
     i.wrapping_add(1).wrapping_mul(0x9e37_79b9_7f4a_7c15)
 }
 
-fn seats() -> [SeatNumber; 64] {
-    let mut keys = [SeatNumber { number: 0 }; 64];
-    let mut i = 0;
-    for key in keys.iter_mut() {
-        *key = SeatNumber { number: mixed(i) };
-        i = i.wrapping_add(1);
-    }
-    keys
+fn seats() -> [SeatNumber; PLACES] {
+    array::from_fn(|i| SeatNumber {
+        number: mixed(i as u64),
+    })
 }
 
-fn stations() -> [StationKey; 64] {
-    let mut keys = [StationKey { bytes: [0; 32] }; 64];
-    let mut i = 0;
-    for key in keys.iter_mut() {
-        let [a, b, c, d, e, f, g, h] = mixed(i).to_be_bytes();
+fn stations() -> [StationKey; PLACES] {
+    array::from_fn(|i| {
         let mut bytes = [0; 32];
-        bytes[0] = a;
-        bytes[5] = b;
-        bytes[10] = c;
-        bytes[15] = d;
-        bytes[20] = e;
-        bytes[25] = f;
-        bytes[30] = g;
-        bytes[31] = h;
-        *key = StationKey { bytes };
-        i = i.wrapping_add(1);
-    }
-    keys
+        bytes[..8].copy_from_slice(&mixed(i as u64).to_be_bytes());
+        StationKey { bytes }
+    })
 }
 
 // Finds every key once, and counts those found.
 fn find_all<K: OrderedKey, R: Roll<K>>(roll: &R, keys: &[K]) -> u64 {
-    let mut found = 0u64;
-    for key in keys {
-        if roll.find(key).is_some() {
-            found = found.saturating_add(1);
-        }
-    }
-    found
+    keys.iter().filter(|key| roll.find(key).is_some()).count() as u64
 }
 
 // Enters every key once.
@@ -88,9 +65,7 @@ fn bench<K: OrderedKey, R: Roll<K>>(
     for _round in 0..rounds {
         strike_all(roll);
         let start = Instant::now(rt)?;
-        if enter_all(roll, keys).is_err() {
-            return Err(anyhow!("the roll is full"));
-        }
+        enter_all(roll, keys)?;
         entering = entering.saturating_add(start.elapsed(rt)?.as_nanos());
     }
     let mut found = 0u64;

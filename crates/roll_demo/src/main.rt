@@ -40,12 +40,10 @@ impl Pair {
 
     // The keys of the sorted roll, in order.
     fn keys(&self, heap: Global) -> Result<Vec<u64>, AllocError> {
-        let mut keys = Vec::new(heap);
-        for place in 0..self.sorted.size() {
-            if let Some(key) = self.sorted.key_at(place) {
-                keys.push(key.number)?;
-            }
-        }
+        let mut keys: Vec<u64> = (0..self.sorted.size())
+            .filter_map(|place| self.sorted.key_at(place))
+            .map(|key| key.number)
+            .collect(heap)?;
         keys.sort_unstable();
         Ok(keys)
     }
@@ -92,9 +90,7 @@ fn run(rt: &HostRuntime) -> anyhow::Result<()> {
     let Some(mut pair) = start(rt, lines.next().unwrap_or(""))? else {
         return Ok(());
     };
-    let mut number = 1usize;
-    for line in lines {
-        number = number.saturating_add(1);
+    for (number, line) in (2..usize::MAX).zip(lines) {
         pair.line(rt, number, line)?;
     }
     pair.summary(rt)

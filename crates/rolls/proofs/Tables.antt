@@ -1,8 +1,9 @@
 -- Lists of places after a write at one of them.
-use Rattle.std.proofs.Common.{◌≡◌, ℕ, zero, suc, ◌+◌, ◌<◌, ◌≤◌, false, cond, ◌⊎◌, List, [], ◌∷◌, ◌++◌, length, get_or, set, replicate, is_ok, is_err, Some, None, Ok, Err, Option, Result, sym, refl, ap, ◌∙◌, inl, inr, ⊎_elim, arith}
-use Rattle.std.proofs.lemmas.List.{get_or_past, replicate_more}
-use Rattle.std.proofs.lemmas.Bool.{cases_lt, both_ways}
-use Rattle.rolls.specs.Places.{at, Absent, Distinct, occupied}
+use Rattle.std.proofs.Common.{◌≡◌, ℕ, zero, suc, ◌+◌, ◌<◌, ◌≤◌, ◌⊎◌, List, [], ◌∷◌, length, get_or, set, replicate, Some, None, Ok, Err, Option, Result, sym, refl, ap, ◌∙◌, inl, inr, ⊎_elim, subst, length-set, arith}
+use Rattle.std.proofs.lemmas.List.{get_or_past}
+use Rattle.std.proofs.lemmas.Bool.{cases_lt}
+use Rattle.rolls.specs.declared.fault.RollFault.{RollFault}
+use Rattle.rolls.specs.Places.{at, Absent, Distinct, Proper, Entered, Struck, occupied}
 
 -- what a list has after a write at i, whatever it has past its end: what was written, at i, or what it had
 pub get_or-after_set : {X : Type 0} (xs : List X) (i p : ℕ) (v d : X) → (get_or (set xs i v) p d ≡ get_or xs p d) ⊎ ((p ≡ i) × (get_or (set xs i v) p d ≡ v))
@@ -79,11 +80,29 @@ module _ {K : Type 0} where
   occupied_lt (Some j ∷ ps) zero h e = some_none j refl e
   occupied_lt (Some j ∷ ps) (suc p) h e = omega (arith, occupied_lt ps p (omega arith) e)
 
+module _ {K : Type 0} where
+  -- a roll stays what it is: 1 to 64 places, and no key twice
+  pub proper_entered : (before after : List (Option K)) (k : K) (r : Result ℕ RollFault) → Proper before → Entered before after k r → Proper after
+  proper_entered before after k (Ok p) h e =
+      ⊎_elim
+      (λ stood. subst Proper (sym stood.same) h)
+      (λ took. subst Proper (sym took.set_there) (record {
+        some = rw length-set h.some;
+        few = rw length-set h.few;
+        distinct = distinct_enter before p k took.absent h.distinct;
+      }))
+      e
+  proper_entered before after k (Err fault) h e = subst Proper (sym e.same) h
+
+  pub proper_struck : (before after : List (Option K)) (p : ℕ) (r : Result (Unit {0}) RollFault) → Proper before → Struck before after p r → Proper after
+  proper_struck before after p (Ok done) h e =
+      subst Proper (sym e.set_there) (record {
+        some = rw length-set h.some;
+        few = rw length-set h.few;
+        distinct = distinct_strike before p h.distinct;
+      })
+  proper_struck before after p (Err fault) h e = subst Proper (sym e.same) h
+
 pub occupied-vacant : (K : Type 0) (n : ℕ) → occupied {K = K} (replicate n None) ≡ 0
 occupied-vacant K zero = refl
 occupied-vacant K (suc n) = occupied-vacant K n
-
--- one more of the same, pushed
-pub pushed_same : {X U E : Type 0} (r : Result U E) (ys xs : List X) (n : ℕ) (x : X) → is_err r ≡ false → ys ≡ cond (is_ok r) (xs ++ x ∷ []) xs → xs ≡ replicate n x → ys ≡ replicate (n + 1) x
-pushed_same (Ok u) ys xs n x w e h = let m = replicate_more n x in cc
-pushed_same (Err u) ys xs n x w e h = absurd (both_ways _ w refl)

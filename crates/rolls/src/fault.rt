@@ -1,19 +1,24 @@
 ghost use Rattle.std.specs.Prelude.{◌≡◌};
 ghost use Rattle.rolls.specs.Faults.{number_of};
+ghost use Rattle.rolls.specs.declared.fault.RollFault.TheVariants.{OutOfMemory};
 
-use std::error::Error;
-use std::fmt;
+use std::alloc::AllocError;
+use thiserror::Error;
 
 // Why a roll refuses a call.
-#[derive(Clone, Copy, Debug, PartialEq, Eq)]
+#[derive(Clone, Copy, Debug, PartialEq, Eq, Error)]
 pub enum RollFault {
     // The key is absent and no place is empty.
+    #[error("no place is empty")]
     Full,
     // The place to be struck is empty.
+    #[error("the place is empty already")]
     Vacant,
-    // A roll has 1 to 64 places.
+    // The size is none that a roll can have.
+    #[error("a roll has 1 to 64 places")]
     BadSize,
     // There is no memory for the roll.
+    #[error("no memory for the roll")]
     OutOfMemory,
 }
 
@@ -29,16 +34,10 @@ impl RollFault {
     }
 }
 
-// What is printed of a fault.
-impl fmt::Display for RollFault {
-    fn fmt<W: fmt::Write>(&self, f: &mut fmt::Formatter<W>) -> fmt::Result {
-        match self {
-            RollFault::Full => f.pad("no place is empty"),
-            RollFault::Vacant => f.pad("the place is empty already"),
-            RollFault::BadSize => f.pad("a roll has 1 to 64 places"),
-            RollFault::OutOfMemory => f.pad("no memory for the roll"),
-        }
+impl From<AllocError> for RollFault {
+    ghost from_gives = { λ _ fault. fault ≡ OutOfMemory };
+
+    fn from(_error: AllocError) -> RollFault {
+        RollFault::OutOfMemory
     }
 }
-
-impl Error for RollFault {}

@@ -1,11 +1,17 @@
 -- A sorted roll keeps, beside its places, those that have keys in the order of their keys. The
 -- index of a place in that order is its rank.
-use Rattle.std.specs.Prelude.{◌≡◌, ℕ, ◌<◌, ◌≤◌, Bool, true, false, List, length, Some, None, vec_items, vec_capacity, Option, ◌≢◌, slice_index_or, slice_set}
+use Rattle.std.specs.Prelude.{◌≡◌, ℕ, ◌<◌, ◌≤◌, Bool, true, false, List, length, Some, None, Option, ◌≢◌, slice_index_or}
 use Rattle.std.specs.declared.cmp.Ordering.TheVariants.{Less}
 use Rattle.std.specs.declared.cmp.Ordering.{Ordering}
 use Rattle.keys.specs.Order.{is_less}
-use Rattle.rolls.specs.Places.{at, occupied, Absent, NoneEmpty}
-use Rattle.sorted_roll.specs.declared.sorted_roll.SortedRoll.{SortedRoll}
+use Rattle.rolls.specs.Places.{at, occupied, NoneEmpty}
+
+-- what a sorted roll keeps: what each place has, the places that have keys in the order of their
+-- keys, and for how many of them there is room
+pub record Kept (K : Type 0) : Type 0 where
+  pub places : List (Option K)
+  pub ranks : List ℕ
+  pub room : ℕ
 
 module _ {K : Type 0} where
   -- the place of a rank; past the last rank a number past the last place
@@ -46,29 +52,14 @@ module _ {K : Type 0} (order : K → K → Ordering) where
     pub before : (i : ℕ) → i < rank → below (key_of places ranks i) key ≡ true
     pub from : (i : ℕ) → rank ≤ i → below (key_of places ranks i) key ≡ false
 
-  -- a sound roll
-  abbrev pub Sound : SortedRoll K → Type 0
-  Sound roll = Ranked (vec_items roll.places) (vec_items roll.ranks) (vec_capacity roll.ranks)
+  -- what a sorted roll keeps, where it agrees
+  abbrev pub Sound : Kept K → Type 0
+  Sound roll = Ranked roll.places roll.ranks roll.room
 
   -- the rank of a key in a roll
-  abbrev pub RankIn : SortedRoll K → K → ℕ → Type 0
-  RankIn roll key rank = Located (vec_items roll.places) (vec_items roll.ranks) key rank
+  abbrev pub RankIn : Kept K → K → ℕ → Type 0
+  RankIn roll key rank = Located roll.places roll.ranks key rank
 
-  -- a sound roll whose places are these
-  pub record Became (roll : SortedRoll K) (places : List (Option K)) : Type 0 where
-    pub sound : Sound roll
-    pub now_places : vec_items roll.places ≡ places
-
-  -- A key put into a place and at a rank: where the roll is sound, the rank is the key's, the key is absent and the
-  -- place is empty, there is room for it, and the place has the key and no other place changes.
-  abbrev pub Put : SortedRoll K → SortedRoll K → ℕ → ℕ → K → Bool → Type 0
-  Put before after rank place key done =
-      Sound before → RankIn before key rank → Absent (vec_items before.places) key → Vacancy (vec_items before.places) (Some place)
-      → (done ≡ true) × Became after (slice_set (vec_items before.places) place (Some key))
-
-  -- a place emptied, and a rank taken away: where the roll is sound and the rank is that of the key at the place, the
-  -- place is empty and no other place changes
-  abbrev pub Cleared : SortedRoll K → SortedRoll K → ℕ → ℕ → Type 0
-  Cleared before after rank place =
-      (key : K) → Sound before → RankIn before key rank → at (vec_items before.places) place ≡ Some key
-      → Became after (slice_set (vec_items before.places) place None)
+  -- the place has a key, and the rank is that key's
+  abbrev pub HasRank : Kept K → ℕ → ℕ → Type 0
+  HasRank roll rank place = (key : K) × (at roll.places place ≡ Some key) × RankIn roll key rank

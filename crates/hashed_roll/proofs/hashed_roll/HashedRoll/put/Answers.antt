@@ -1,18 +1,11 @@
-use Rattle.std.proofs.Common.{arith}
-use Rattle.hashed_roll.specs.Tables.{sound-put, places-put, places_past}
+use Rattle.std.proofs.Common.{subst, sym}
+use Rattle.hashed_roll.specs.Probing.{Suits}
+use Rattle.hashed_roll.specs.Tables.{sound-put, places-put}
 use Rattle.hashed_roll.proofs.hashed_roll.HashedRoll.put.Goals as goal
 
-pub returns-then-number-len : goal.returns-then-number-len
-returns-then-number-len g c =
-    record {
-      placed = places_past c.args.self.now.slots.items c.args.number c.args.slot (omega arith);
-      stays_sound = λ sound _. sound;
-    }
+pub invariant_of-self : goal.invariant_of-self
+invariant_of-self g c =
+    sound-put _ _ _ _ c.self.invariant (subst (λ slots. Suits g.K.HashedKey.hashed slots c.args.number c.args.slot) (sym c.self.view_is) c.requires.suits)
 
 pub returns : goal.returns
-returns g c =
-    let slots = c.args.self.now.slots.items in
-    record {
-      placed = places-put slots c.args.number c.args.slot;
-      stays_sound = sound-put g.K.HashedKey.hashed slots c.args.number c.args.slot;
-    }
+returns g c = rw (← c.self.view_is) (places-put _ _ _)

@@ -1,15 +1,16 @@
-use Rattle.std.proofs.Common.{◌≡◌, replicate, None, sym, ap, ◌∙◌, arith}
-use Rattle.rolls.proofs.Tables.{pushed_same}
+use Rattle.std.proofs.Common.{◌≤◌, rules}
 use Rattle.sorted_roll.specs.Ranking.{ranked_new}
 use Rattle.sorted_roll.proofs.sorted_roll.SortedRoll.new.Goals as goal
 
-pub loop-place-preserved : goal.loop-place-preserved
-loop-place-preserved g c =
-    pushed_same _ _ _ _ _ (sym c.is_err.ensures.value ∙ c.if-is_err.false) c.push.ensures.items c.loop-place.invariant
+pub invariant_of-result : goal.invariant_of-result
+invariant_of-result g c =
+    let size = c.args.size in
+    let right : (1 ≤ size) × (size ≤ 64) = search rules in
+    ranked_new _ _ _ size _ (c.in_ok-places.ensures.items_if_clones_equal (λ y e. search rules)) c.in_ok-ranks.ensures.items right.0 right.1 c.in_ok-ranks.ensures.capacity
 
 pub returns : goal.returns
 returns g c =
-    let made = c.in-Ok.ensures in
-    let all : c.loop-place._place ≡ c.args.size = omega arith in
-    let empty : c.loop-place.places.items ≡ replicate c.args.size None = c.loop-place.invariant ∙ ap (λ n. replicate n None) all in
-    ((omega arith, omega arith), ranked_new g.K.OrderedKey.order _ _ c.args.size c.in-Ok.ranks.cap empty made.items (omega arith) (omega arith) made.capacity, empty)
+    let size = c.args.size in
+    let right : (1 ≤ size) × (size ≤ 64) = search rules in
+    let empty = c.in_ok-places.ensures.items_if_clones_equal (λ y e. search rules) in
+    (right, ranked_new _ _ _ size _ empty c.in_ok-ranks.ensures.items right.0 right.1 c.in_ok-ranks.ensures.capacity, empty)

@@ -1,18 +1,12 @@
-use Rattle.std.proofs.Common.{sym, ◌∙◌, arith}
-use Rattle.sorted_roll.specs.Bisection.{before_middle, from_middle, from_last}
+use Rattle.std.proofs.Common.{subst, ap, ◌∙◌, of_calls}
+use Rattle.std.proofs.lemmas.List.Sorted.{IsPartitionPoint-from_clause}
+use Rattle.rolls.specs.Places.{at}
+use Rattle.sorted_roll.specs.Ranks.{Kept, Sound, below}
+use Rattle.sorted_roll.proofs.Lookups.{located_behind}
 use Rattle.sorted_roll.proofs.sorted_roll.SortedRoll.rank.Goals as goal
 
-pub loop-low-init : goal.loop-low-init
-loop-low-init g c =
-    let s = c.args.self.now in
-    (omega arith, omega arith, λ sound i h. absurd (omega arith), λ sound i h. from_last g.K.OrderedKey.order g.met.K.OrderedKey.lawful s.places.items s.ranks.items s.ranks.cap sound c.args.key.now i (omega (arith, s.ranks.ok.0)))
-
-pub loop-low-preserved-then-is_below : goal.loop-low-preserved-then-is_below
-loop-low-preserved-then-is_below g c =
-    let s = c.args.self.now in
-    (omega arith, omega arith, λ sound. before_middle g.K.OrderedKey.order g.met.K.OrderedKey.lawful s.places.items s.ranks.items s.ranks.cap sound c.args.key.now _ (sym c.is_below.ensures ∙ c.if-is_below.true), c.loop-low.invariant.3)
-
-pub loop-low-preserved : goal.loop-low-preserved
-loop-low-preserved g c =
-    let s = c.args.self.now in
-    (omega arith, omega arith, c.loop-low.invariant.2, λ sound. from_middle g.K.OrderedKey.order g.met.K.OrderedKey.lawful s.places.items s.ranks.items s.ranks.cap sound c.args.key.now _ (omega (arith, s.ranks.ok.0)) (sym c.is_below.ensures ∙ c.if-is_below.false))
+pub returns : goal.returns
+returns g c =
+    let ranks = c.deref.ensures.value ∙ ap (λ (now : Kept g.row.K.Denot). now.ranks) c.self.view_is in
+    located_behind _ g.met.K.OrderedKey.lawful _ _ _ (subst (Sound g.K.OrderedKey.order) c.self.view_is c.self.invariant) _ _ _ ranks c.partition_point.ensures.bound
+    (λ parted. IsPartitionPoint-from_clause (λ p. below g.K.OrderedKey.order (at c.args.self.now.places p) c.args.key.now) _ _ c.partition_point.ensures.partitioned parted (λ a r q k. search of_calls))
