@@ -4,7 +4,8 @@ use Rattle.std.specs.declared.cmp.Ordering.{Ordering}
 use Rattle.keys.specs.Order.{ascending}
 use Rattle.types.specs.Bits.{bits, spare_bits}
 use Rattle.types.specs.declared.bit_vec.BitVec.{BitVec}
-use Rattle.bit_set.specs.Places.{keys_of, paired}
+use Rattle.key_list.specs.Members.{keys_in as listed}
+use Rattle.bit_set.specs.Places.{paired}
 use Rattle.bit_set.specs.declared.bit_set.BitSet.{BitSet}
 use Rattle.bit_set.specs.declared.fault.BitSetFault.{BitSetFault}
 use Rattle.bit_set.specs.declared.fault.BitSetFault.TheVariants.{TooMany, NotAscending}
@@ -18,7 +19,7 @@ with_second (p ∷ ps) (suc i) y = p ∷ with_second ps i y
 module _ {K : Type 0} where
   -- the keys of a set, in order
   abbrev pub keys_in : BitSet K → List K
-  keys_in s = keys_of s.keys
+  keys_in s = listed s.keys
 
   -- its bits, in the order of the keys
   abbrev pub bits_in : BitSet K → List Bool

@@ -1,11 +1,42 @@
 -- Keys in the first places of a row: reading one, placing a list, and putting one between others.
 use Rattle.std.proofs.Common.{◌≡◌, ℕ, zero, suc, ◌+◌, ◌-◌, ◌<◌, ◌≤◌, List, [], ◌∷◌, ◌++◌, map, length, get_or, take, drop, set, replicate, Some, None, Option, sym, refl, ap, ◌∙◌, arith}
-use Rattle.std.specs.List.{insert, slice_get}
-use Rattle.std.proofs.lemmas.List.{append_assoc, length-append, length-set, length-map, length-replicate, length-take-le, get_or_default, get_or_at, set_at, take_at, take_all, take_more, take-append-drop, drop_all, drop_more, map_push}
-use Rattle.std.proofs.lemmas.List.Edits.{length-insert, get_or-insert_at, get_or-insert_above}
-use Rattle.key_list.specs.Places.{keys_of, taken, Row}
+use Rattle.std.specs.List.{between, insert, slice_get}
+use Rattle.std.proofs.lemmas.List.{append_assoc, length-append, length-take-le, length-drop, length-map, length-replicate, map_push, take_more, set_at, take_at, drop_at, take_all, take-append-drop, drop-drop, drop_all}
+use Rattle.std.proofs.lemmas.List.Edits.{length-insert, length-between, between_more}
+use borrow.Rule.Slice.PartMut.{put_mid}
+use Rattle.key_list.specs.Places.{keys_of, taken}
 use Rattle.key_list.specs.Members.{keys_in}
 use Rattle.key_list.specs.declared.key_list.KeyList.{KeyList}
+
+-- the last of a part is turned round to its front, and another item is put over it
+module _ {X : Type 0} where
+  turned_last : (front : List X) (y : X) (part turned : List X) → part ≡ front ++ y ∷ [] → turned ≡ drop (length part - 1) part ++ take (length part - 1) part → turned ≡ y ∷ front
+  turned_last front y part turned e r =
+      let n : length front ≡ length (front ++ y ∷ []) - 1 = omega (arith, length-append front (y ∷ [])) in
+      r
+      ∙ ap (λ t. drop (length t - 1) t ++ take (length t - 1) t) e
+      ∙ ap (λ t. t ++ take (length (front ++ y ∷ []) - 1) (front ++ y ∷ [])) (drop_at front (y ∷ []) _ n)
+      ∙ ap (λ t. y ∷ t) (take_at front (y ∷ []) _ n)
+
+  pub put_over : (xs : List X) (n i : ℕ) (x : X) (turned : List X) → i ≤ n → n < length xs → turned ≡ drop (length (between i (n + 1) xs) - 1) (between i (n + 1) xs) ++ take (length (between i (n + 1) xs) - 1) (between i (n + 1) xs) → set (put_mid i (n + 1 - i) xs turned) i x ≡ take (suc n) (insert xs i x) ++ drop (suc n) xs
+  put_over xs n i x turned low room e =
+      let front : List X = between i n xs in
+      let y : X = get_or xs n x in
+      let last : turned ≡ y ∷ front = turned_last front y (between i (n + 1) xs) turned (between_more xs i n x low room) e in
+      let a : length (take i xs) ≡ i = length-take-le i xs (omega arith) in
+      let f : length front ≡ n - i = length-between xs i n (omega arith) in
+      let k : i + (n + 1 - i) ≡ suc n = omega arith in
+      let l : i + (n - i) ≡ n = omega arith in
+      let behind : drop (n + 1 - i) (drop i xs) ≡ drop (suc n) xs = drop-drop (n + 1 - i) i xs ∙ ap (λ m. drop m xs) k in
+      let split : drop i xs ≡ front ++ drop n xs = sym (take-append-drop (n - i) (drop i xs)) ∙ ap (λ t. front ++ t) (drop-drop (n - i) i xs ∙ ap (λ m. drop m xs) l) in
+      let all : insert xs i x ≡ (take i xs ++ x ∷ front) ++ drop n xs =
+      ap (λ t. take i xs ++ x ∷ t) split ∙ sym (append_assoc (take i xs) (x ∷ front) (drop n xs)) in
+      let many : length (take i xs ++ x ∷ front) ≡ suc n = length-append (take i xs) (x ∷ front) ∙ omega arith in
+      ap (λ t. set (put_mid i (n + 1 - i) xs t) i x) last
+      ∙ ap (λ t. set (take i xs ++ ((y ∷ front) ++ t)) i x) behind
+      ∙ set_at (take i xs) y (front ++ drop (suc n) xs) x i a
+      ∙ sym (append_assoc (take i xs) (x ∷ front) (drop (suc n) xs))
+      ∙ ap (λ t. t ++ drop (suc n) xs) (sym (ap (take (suc n)) all ∙ take_at (take i xs ++ x ∷ front) (drop n xs) (suc n) many))
 
 module _ {K : Type 0} where
   -- what a place has
@@ -17,12 +48,12 @@ module _ {K : Type 0} where
   none_taken (Some k ∷ ps) i e = absurd (omega arith)
 
   -- where no key stands behind an empty place
-  pub place-has : (ps : List (Option K)) (i : ℕ) → taken ps ≡ length (keys_of ps) → get_or ps i None ≡ slice_get (keys_of ps) i
-  place-has [] i e = refl
-  place-has (None ∷ ps) zero e = refl
-  place-has (None ∷ ps) (suc i) e = none_taken ps i e
-  place-has (Some k ∷ ps) zero e = refl
-  place-has (Some k ∷ ps) (suc i) e = place-has ps i (omega arith)
+  pub place_has : (ps : List (Option K)) (i : ℕ) → taken ps ≡ length (keys_of ps) → get_or ps i None ≡ slice_get (keys_of ps) i
+  place_has [] i e = refl
+  place_has (None ∷ ps) zero e = refl
+  place_has (None ∷ ps) (suc i) e = none_taken ps i e
+  place_has (Some k ∷ ps) zero e = refl
+  place_has (Some k ∷ ps) (suc i) e = place_has ps i (omega arith)
 
   keys-few : (ps : List (Option K)) → length (keys_of ps) ≤ length ps
   keys-few [] = omega arith
@@ -104,58 +135,28 @@ module _ {K : Type 0} where
   taken_inserted (Some j ∷ ps) zero (suc i) k h room low = absurd (omega arith)
   taken_inserted (Some j ∷ ps) (suc n) (suc i) k h room low = ap suc (taken_inserted ps n i k (omega arith) (omega arith) (omega arith))
 
-  -- a walk that puts one more among the places: those below i are right, and what is carried goes to i
-  pub record Carrying (ps : List (Option K)) (index : ℕ) (new : Option K) (i : ℕ) (now : List (Option K)) (carried : Option K) : Type 0 where
-    pub long : length now ≡ 64
-    pub right : now ≡ take i (insert ps index new) ++ drop i ps
-    pub next : carried ≡ get_or (insert ps index new) i None
+  -- a row of 64 places, of which the first n have keys and the others are empty
+  pub record Row (places : List (Option K)) (n : ℕ) : Type 0 where
+    pub whole : length places ≡ 64
+    pub behind : taken places ≡ length (keys_of places)
+    pub counted : n ≡ length (keys_of places)
 
-  module _ (ps : List (Option K)) (index : ℕ) (new : Option K) (whole : length ps ≡ 64) where
-    pub carrying_none : index ≤ 64 → Carrying ps index new index ps new
-    carrying_none h =
-        let f : length (take index ps) ≡ index = length-take-le index ps (omega arith) in
-        record {
-          long = whole;
-          right = sym (take-append-drop index ps) ∙ ap (λ xs. xs ++ drop index ps) (sym (take_at (take index ps) (new ∷ drop index ps) index f));
-          next = sym (get_or-insert_at ps index new None (omega arith));
-        }
-
-    pub carrying_more : (i : ℕ) (now : List (Option K)) (carried d : Option K) → index ≤ i → i < 64 → Carrying ps index new i now carried → Carrying ps index new (i + 1) (set now i carried) (get_or now i d)
-    carrying_more i now carried d low high c =
-        let qs : List (Option K) = insert ps index new in
-        let many : length qs ≡ length ps + 1 = length-insert ps index new (omega arith) in
-        let f : length (take i qs) ≡ i = length-take-le i qs (omega arith) in
-        let split : now ≡ take i qs ++ get_or ps i None ∷ drop (i + 1) ps = c.right ∙ ap (λ xs. take i qs ++ xs) (drop_more ps i None (omega arith)) in
-        record {
-          long = length-set now i carried ∙ c.long;
-          right =
-              ap (λ xs. set xs i carried) split
-              ∙ set_at (take i qs) (get_or ps i None) (drop (i + 1) ps) carried i f
-              ∙ ap (λ x. take i qs ++ x ∷ drop (i + 1) ps) c.next
-              ∙ sym (append_assoc (take i qs) (get_or qs i None ∷ []) (drop (i + 1) ps))
-              ∙ ap (λ xs. xs ++ drop (i + 1) ps) (sym (take_more qs i None (omega arith)));
-          next =
-              get_or_default now i d None (omega (arith, c.long))
-              ∙ ap (λ xs. get_or xs i None) split
-              ∙ get_or_at (take i qs) (get_or ps i None) (drop (i + 1) ps) None i f
-              ∙ sym (get_or-insert_above ps index new None i low (omega arith));
-        }
-
-  -- the walk has come behind the last of n keys
-  module _ (ps : List (Option K)) (n index : ℕ) (k : K) (row : Row ps n) (within : index ≤ n) (room : n < 64) (i : ℕ) (now : List (Option K)) (carried : Option K) (end : i ≡ n + 1) (walk : Carrying ps index (Some k) i now carried) where
-    all_right : now ≡ take (suc n) (insert ps index (Some k)) ++ drop (suc n) ps
-    all_right = let s : i ≡ suc n = omega arith in walk.right ∙ ap (λ m. take m (insert ps index (Some k)) ++ drop m ps) s
-
-    pub carried_keys : keys_of now ≡ insert (keys_of ps) index k
-    carried_keys = ap keys_of all_right ∙ keys_inserted ps n index k row.behind row.counted (omega (arith, row.whole)) within
-
-    pub carried_row : Row now (n + 1)
-    carried_row =
-        let b = row.behind in
-        let c = row.counted in
-        let many : length (keys_of now) ≡ n + 1 = ap length carried_keys ∙ length-insert (keys_of ps) index k (omega arith) ∙ omega arith in
-        let t : taken now ≡ suc (taken ps) = ap taken all_right ∙ taken_inserted ps n index k c (omega (arith, row.whole)) within in
-        record { whole = walk.long; behind = omega arith; counted = sym many }
+  -- those from an index on are moved one place further, and the key is put there
+  pub inserted : (list : KeyList K) (i : ℕ) (k : K) (turned : List (Option K)) → i ≤ length (keys_in list) → length (keys_in list) < 64 → turned ≡ drop (length (between i (list.len + 1) list.keys) - 1) (between i (list.len + 1) list.keys) ++ take (length (between i (list.len + 1) list.keys) - 1) (between i (list.len + 1) list.keys) → let places = set (put_mid i (list.len + 1 - i) list.keys turned) i (Some k) in Row places (list.len + 1) × (keys_of places ≡ insert (keys_in list) i k)
+  inserted list i k turned within room e =
+      let ps = list.keys in
+      let n = list.len in
+      let w = list.whole in
+      let b = list.behind in
+      let c = list.counted in
+      let now : List (Option K) = insert ps i (Some k) in
+      let put = put_over ps n i (Some k) turned (omega arith) (omega arith) e in
+      let same = ap keys_of put ∙ keys_inserted ps n i k b c (omega arith) (omega arith) in
+      let one_more : length now ≡ length ps + 1 = length-insert ps i (Some k) (omega arith) in
+      let whole : length (set (put_mid i (n + 1 - i) ps turned) i (Some k)) ≡ 64 = ap length put ∙ length-append (take (suc n) now) (drop (suc n) ps) ∙ omega (arith, length-take-le (suc n) now (omega arith), length-drop (suc n) ps) in
+      let many : length (keys_of (set (put_mid i (n + 1 - i) ps turned) i (Some k))) ≡ length (keys_of ps) + 1 = ap length same ∙ length-insert (keys_of ps) i k within in
+      let t : taken (set (put_mid i (n + 1 - i) ps turned) i (Some k)) ≡ suc (taken ps) = ap taken put ∙ taken_inserted ps n i k c (omega arith) (omega arith) in
+      (record { whole = whole; behind = omega arith; counted = omega arith }, same)
 
   -- one put at the end
   pub inserted_last : (ks : List K) (i : ℕ) (k : K) → i ≡ length ks → insert ks i k ≡ ks ++ k ∷ []

@@ -1,13 +1,9 @@
 -- Lists of keys: whether a key is in one, one without the keys of another, and a key put in its place.
-use Rattle.std.specs.Prelude.{Bool, true, false, cond, ◌||◌, List, [], ◌∷◌}
+use Rattle.std.specs.Prelude.{Bool, cond, List, [], ◌∷◌}
+use Rattle.std.specs.List.{list_any}
 use Rattle.std.specs.declared.cmp.Ordering.TheVariants.{Less, Equal, Greater}
 use Rattle.std.specs.declared.cmp.Ordering.{Ordering}
-
--- whether an answer is equal
-abbrev pub is_equal : Ordering → Bool
-is_equal Less = false
-is_equal Equal = true
-is_equal Greater = false
+pub use Rattle.keys.specs.Order.{is_equal}
 
 -- a list with an item put in front of the first one, in its stead, or behind it, by how the two stand
 abbrev pub put_by : {X : Type 0} → Ordering → X → X → List X → List X → List X
@@ -18,8 +14,7 @@ put_by Greater new first rest behind = first ∷ behind
 module _ {K : Type 0} (order : K → K → Ordering) where
   -- whether a list has a key
   abbrev pub has : K → List K → Bool
-  has k [] = false
-  has k (j ∷ js) = is_equal (order j k) || has k js
+  has k js = list_any (λ j. is_equal (order j k)) js
 
   -- the keys of a list that another has not
   abbrev pub without : List K → List K → List K

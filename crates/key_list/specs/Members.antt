@@ -1,8 +1,8 @@
 -- What a list of keys means: its keys in order.
-use Rattle.std.specs.Prelude.{◌≡◌, ℕ, ◌+◌, ◌<◌, ◌≤◌, Bool, true, false, cond, List, length, drop, Some, None, Option, nat_le}
+use Rattle.std.specs.Prelude.{◌≡◌, ℕ, ◌+◌, ◌<◌, ◌≤◌, true, List, length, Some, None, Option, nat_le}
 use Rattle.std.specs.declared.cmp.Ordering.{Ordering}
-use Rattle.std.specs.List.{insert, slice_get}
-use Rattle.key_list.specs.Keys.{is_equal, has, put_key}
+use Rattle.std.specs.List.{insert}
+use Rattle.key_list.specs.Keys.{put_key}
 use Rattle.key_list.specs.Places.{keys_of}
 use Rattle.key_list.specs.declared.key_list.KeyList.{KeyList}
 
@@ -17,17 +17,6 @@ module _ {K : Type 0} where
   Made keys (Some list) = (length keys ≤ 64) × (keys_in list ≡ keys)
 
 module _ {K : Type 0} (order : K → K → Ordering) where
-  -- whether what an index has is the given key
-  abbrev pub is_key : Option K → K → Bool
-  is_key None key = false
-  is_key (Some k) key = is_equal (order k key)
-
-  -- The answer whether the key at an index is the given one. If it is, the keys from there on have it; if
-  -- it is not, they have it if those behind the index do.
-  pub record Compared (ks : List K) (i : ℕ) (key : K) (same : Bool) : Type 0 where
-    pub value : same ≡ is_key (slice_get ks i) key
-    pub onward : has order key (drop i ks) ≡ cond same true (has order key (drop (i + 1) ks))
-
   -- a key that is not there goes to an index; one key more is there then
   pub record Goes (key : K) (ks : List K) (i : ℕ) : Type 0 where
     pub within : i ≤ length ks

@@ -1,5 +1,5 @@
 -- Keys in the first places of a row.
-use Rattle.std.specs.Prelude.{◌≡◌, ℕ, suc, List, [], ◌∷◌, length, Some, None, Option}
+use Rattle.std.specs.Prelude.{ℕ, suc, List, [], ◌∷◌, Some, None, Option}
 
 module _ {K : Type 0} where
   -- the keys up to the first empty place
@@ -13,9 +13,3 @@ module _ {K : Type 0} where
   taken [] = 0
   taken (None ∷ places) = taken places
   taken (Some k ∷ places) = suc (taken places)
-
-  -- a row of 64 places, of which the first n have keys and the others are empty
-  pub record Row (places : List (Option K)) (n : ℕ) : Type 0 where
-    pub whole : length places ≡ 64
-    pub behind : taken places ≡ length (keys_of places)
-    pub counted : n ≡ length (keys_of places)

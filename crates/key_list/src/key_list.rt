@@ -1,7 +1,10 @@
 ghost use Rattle.std.specs.Prelude.{◌≡◌, length};
 ghost use Rattle.key_list.specs.Places.{keys_of, taken};
 
+pub mod iter;
 pub mod methods;
+
+pub use iter::Iter;
 
 // How many keys a list has at most.
 const MOST_KEYS: usize = 64;

@@ -1,52 +1,15 @@
-ghost use Rattle.std.specs.Prelude.{◌≡◌, ◌≤◌, true, length, is_some, nat_lt};
-ghost use Rattle.keys.specs.Order.{ascending};
-ghost use Rattle.types.specs.Bits.{bit_at, Blank};
-ghost use Rattle.bit_set.specs.Places.{keys_of, taken, key_at as held_at, is_key, place_of, Read, Found, Held};
-ghost use Rattle.bit_set.specs.Members.{keys_in, bits_in, members, Fresh, Made, Marked, Updated, Carried};
+ghost use Rattle.std.specs.Prelude.{◌≡◌, ◌≤◌, length, is_some, nat_lt};
+ghost use Rattle.types.specs.Bits.{bit_at};
+ghost use Rattle.key_list.specs.Members.{keys_in as listed};
+ghost use Rattle.bit_set.specs.Places.{key_at as held_at, place_of, Found, Held};
+ghost use Rattle.bit_set.specs.Members.{keys_in, bits_in, members, Made, Marked, Updated, Carried};
 
-use super::{BitSet, MOST_KEYS};
+use super::BitSet;
 use crate::fault::BitSetFault;
+use key_list::KeyList;
 use keys::{OrderedKey, is_ascending};
 use std::alloc::AllocError;
-use std::cmp::Ordering;
 use types::BitVec;
-
-// Places that have these keys, one after the other from the first place on; the others are empty.
-fn placed<K: OrderedKey>(keys: &[K]) -> [Option<K>; MOST_KEYS]
-    requires { length keys.now ≤ 64 }
-    ensures whole { length result ≡ 64 }
-    ensures held { keys_of result ≡ keys.now }
-    ensures behind { taken result ≡ length keys.now }
-{
-    let mut places = [None; MOST_KEYS];
-    for i in 0..keys.len() {
-        places[i] = Some(keys[i]);
-    }
-    places
-}
-
-// A set of these keys, which ascend, over a vector that has a bit 0 for each: none is known.
-fn unknown<K: OrderedKey>(keys: &[K], knowledge: BitVec) -> BitSet<K>
-    requires few { length keys.now ≤ 64 }
-    requires blank { Blank 0 (length keys.now) knowledge }
-    ensures { ascending K.OrderedKey.order keys.now ≡ true → Fresh K.OrderedKey.order keys.now result }
-{
-    BitSet {
-        keys: placed(keys),
-        knowledge,
-    }
-}
-
-// What the place with an index has, or none past the last place.
-fn read<K: OrderedKey>(places: &[Option<K>], index: usize) -> Option<K>
-    ensures { Read places.now index result }
-{
-    if index < places.len() {
-        places[index]
-    } else {
-        None
-    }
-}
 
 impl<K: OrderedKey> BitSet<K> {
     // A set of these keys, of which none is known yet. Refused if they are more than 64, or else if
@@ -54,13 +17,15 @@ impl<K: OrderedKey> BitSet<K> {
     pub fn new(keys: &[K]) -> Result<BitSet<K>, BitSetFault>
         ensures { Made K.OrderedKey.order keys.now result }
     {
-        let Some(knowledge) = BitVec::new(0, keys.len() as u64) else {
-            return Err(BitSetFault::TooMany);
-        };
+        let list = KeyList::of(keys).ok_or(BitSetFault::TooMany)?;
+        let knowledge = BitVec::new(0, list.len() as u64).ok_or(BitSetFault::TooMany)?;
         if !is_ascending(keys) {
             return Err(BitSetFault::NotAscending);
         }
-        Ok(unknown(keys, knowledge))
+        Ok(BitSet {
+            keys: list,
+            knowledge,
+        })
     }
 
     // How many keys the set has.
@@ -68,7 +33,14 @@ impl<K: OrderedKey> BitSet<K> {
         ensures keys { result ≡ length (keys_in self.now) }
         ensures members { result ≡ length (members self.now) }
     {
-        self.knowledge.len as usize
+        self.keys.len()
+    }
+
+    // The keys, in their order.
+    pub fn keys(&self) -> KeyList<K>
+        ensures { listed result ≡ keys_in self.now }
+    {
+        self.keys
     }
 
     // The key at an index, or none past the last.
@@ -76,7 +48,7 @@ impl<K: OrderedKey> BitSet<K> {
         ensures value { result ≡ held_at (keys_in self.now) index }
         ensures there { is_some result ≡ nat_lt index (length (keys_in self.now)) }
     {
-        read(&self.keys, index)
+        self.keys.key_at(index)
     }
 
     // The index of a key, or none exactly if the set has not that key.
@@ -84,25 +56,7 @@ impl<K: OrderedKey> BitSet<K> {
         ensures value { result ≡ place_of K.OrderedKey.order key.now 0 (keys_in self.now) }
         ensures found { Found (keys_in self.now) key.now result }
     {
-        for index in 0..self.len() {
-            if self.is_at(index, key) {
-                return Some(index);
-            }
-        }
-        None
-    }
-
-    // Whether a key is the one at an index.
-    fn is_at(&self, index: usize, key: &K) -> bool
-        ensures { result ≡ is_key K.OrderedKey.order (held_at (keys_in self.now) index) key.now }
-    {
-        match self.key_at(index) {
-            Some(held) => match held.compare(key) {
-                Ordering::Equal => true,
-                _ => false,
-            },
-            None => false,
-        }
+        self.keys.iter().position(|held| held.is_same(key))
     }
 
     // Whether the information of the peer at an index is known, or none past the last key.

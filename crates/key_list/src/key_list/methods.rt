@@ -1,24 +1,14 @@
 ghost use Rattle.std.specs.Prelude.{◌≡◌, ◌+◌, ◌<◌, ◌≤◌, [], ◌∷◌, ◌++◌, length, if◌then◌else◌, nat_le, nat_lt};
 ghost use Rattle.std.specs.List.{insert, slice_get};
 ghost use Rattle.key_list.specs.Keys.{has, put_key};
-ghost use Rattle.key_list.specs.Places.{keys_of, taken, Row};
-ghost use Rattle.key_list.specs.Members.{keys_in, Made, Compared, Gap};
+ghost use Rattle.key_list.specs.Places.{keys_of, taken};
+ghost use Rattle.key_list.specs.Members.{keys_in, Made, Gap};
 
+use super::iter::Iter;
 use super::{KeyList, MOST_KEYS};
 use keys::OrderedKey;
 use std::alloc::AllocError;
 use std::cmp::Ordering;
-
-// What the place with an index has, or none past the last place.
-fn read<K: OrderedKey>(places: &[Option<K>], index: usize) -> Option<K>
-    ensures { taken places.now ≡ length (keys_of places.now) → result ≡ slice_get (keys_of places.now) index }
-{
-    if index < places.len() {
-        places[index]
-    } else {
-        None
-    }
-}
 
 // Places that have these keys, one after the other from the first place on; the others are empty.
 fn placed<K: OrderedKey>(keys: &[K]) -> [Option<K>; MOST_KEYS]
@@ -28,29 +18,10 @@ fn placed<K: OrderedKey>(keys: &[K]) -> [Option<K>; MOST_KEYS]
     ensures behind { taken result ≡ length keys.now }
 {
     let mut places = [None; MOST_KEYS];
-    for i in 0..keys.len() {
-        places[i] = Some(keys[i]);
+    for (i, key) in keys.iter().enumerate() {
+        places[i] = Some(*key);
     }
     places
-}
-
-// Puts one more key at an index among the keys in the first places, and moves those from there on one
-// place further; `len` is how many there are.
-fn put_at<K: OrderedKey>(places: &mut [Option<K>; MOST_KEYS], len: &mut usize, index: usize, key: K)
-    requires row { Row places.old len.old }
-    requires within { index ≤ len.old }
-    requires room { len.old < 64 }
-    ensures row { Row places.new len.new }
-    ensures between { keys_of places.new ≡ insert (keys_of places.old) index key }
-    ensures last { index ≡ length (keys_of places.old) → keys_of places.new ≡ keys_of places.old ++ key ∷ [] }
-{
-    let mut carried = Some(key);
-    for i in index..*len + 1 {
-        let next = places[i];
-        places[i] = carried;
-        carried = next;
-    }
-    *len += 1;
 }
 
 // A list of these keys, which are at most 64.
@@ -89,36 +60,26 @@ impl<K: OrderedKey> KeyList<K> {
         self.len
     }
 
+    // The keys, in their order.
+    pub fn iter(&self) -> Iter<'_, K>
+        ensures all { result ≡ keys_in self.now }
+        ensures few { length result ≤ 64 }
+    {
+        Iter { places: &self.keys }
+    }
+
     // The key at an index, or none past the last.
     pub fn key_at(&self, index: usize) -> Option<K>
         ensures { result ≡ slice_get (keys_in self.now) index }
     {
-        read(&self.keys, index)
-    }
-
-    // Whether the key at an index is the given one.
-    fn is_at(&self, index: usize, key: &K) -> bool
-        ensures { Compared K.OrderedKey.order (keys_in self.now) index key.now result }
-    {
-        match self.key_at(index) {
-            Some(held) => match held.compare(key) {
-                Ordering::Equal => true,
-                _ => false,
-            },
-            None => false,
-        }
+        *self.keys.get(index)?
     }
 
     // Whether a key is in the list.
     pub fn has(&self, key: &K) -> bool
         ensures { result ≡ has K.OrderedKey.order key.now (keys_in self.now) }
     {
-        for index in 0..self.len() {
-            if self.is_at(index, key) {
-                return true;
-            }
-        }
-        false
+        self.iter().any(|held| held.is_same(key))
     }
 
     // Puts a key behind the last, and answers true; where 64 are there already nothing changes.
@@ -163,10 +124,7 @@ impl<K: OrderedKey> KeyList<K> {
     fn gap(&self, key: &K) -> Option<usize>
         ensures { Gap K.OrderedKey.order key.now (keys_in self.now) result }
     {
-        for index in 0..self.len() {
-            let Some(held) = self.key_at(index) else {
-                return Some(index);
-            };
+        for (index, held) in self.iter().enumerate() {
             match key.compare(&held) {
                 Ordering::Less => return Some(index),
                 Ordering::Equal => return None,
@@ -183,7 +141,23 @@ impl<K: OrderedKey> KeyList<K> {
         ensures between { keys_in self.new ≡ insert (keys_in self.old) index key }
         ensures last { index ≡ length (keys_in self.old) → keys_in self.new ≡ keys_in self.old ++ key ∷ [] }
     {
-        put_at(&mut self.keys, &mut self.len, index, key);
+        let places = &mut self.keys[..];
+        places[index..self.len + 1].rotate_right(1);
+        places[index] = Some(key);
+        self.len += 1;
+    }
+}
+
+impl<'a, K: OrderedKey> IntoIterator for &'a KeyList<K> {
+    type Item = K;
+
+    type IntoIter = Iter<'a, K>;
+
+    ghost into_iter_gives = { λ list it. it ≡ keys_in list.now };
+
+    // The keys, in their order.
+    fn into_iter(self) -> Self::IntoIter {
+        self.iter()
     }
 }
 

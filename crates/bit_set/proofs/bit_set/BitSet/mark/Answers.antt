@@ -10,8 +10,6 @@ invariant_of-self g c =
     let w = c.set.ensures.written in
     let enough : length (bits c.set.new.self) ≡ length (keys_in s) = written_enough (keys_in s) s.knowledge c.set.new.self _ _ w s.enough in
     record {
-      whole = s.whole;
-      behind = s.behind;
       counted = w.same_len ∙ s.counted;
       enough = enough;
       every = every_from (keys_in s) c.set.new.self enough;

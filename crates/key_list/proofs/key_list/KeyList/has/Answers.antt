@@ -1,8 +1,11 @@
-use Rattle.std.proofs.Common.{sym, ◌∙◌, arith}
+use Rattle.std.proofs.Common.{rules}
+use borrow.Author.Tests.{tests}
+use Rattle.std.proofs.lemmas.Iterator.Consumers.{YieldsList-from_first}
+use Rattle.std.proofs.lemmas.Iterator.Search.{any_from_yields_List}
+use Rattle.keys.specs.Order.{is_equal}
 use Rattle.key_list.specs.Members.{keys_in}
-use Rattle.key_list.proofs.Puts.{has_past}
 use Rattle.key_list.proofs.key_list.KeyList.has.Goals as goal
 
 pub returns : goal.returns
 returns g c =
-    sym (has_past g.K.OrderedKey.order c.args.key.now (keys_in c.args.self.now) c.loop-index.index (omega arith)) ∙ c.loop-index.invariant
+    any_from_yields_List (λ held. is_equal (g.K.OrderedKey.order held c.args.key.now)) _ _ _ c.any.ensures.ran (YieldsList-from_first (λ k. k) (λ rest. rest) (keys_in c.args.self.now) c.iter.ensures.all) (λ k b q called. search (rules, tests))
