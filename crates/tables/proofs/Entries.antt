@@ -1,10 +1,11 @@
--- Lists of keys with values: what writing and cutting a key does to look-ups, to the order and to the length.
-use Rattle.std.proofs.Common.{◌≡◌, suc, ◌≤◌, Bool, true, false, cond, ◌⊎◌, List, [], ◌∷◌, length, Some, None, Option, Ordering, Less, Equal, Greater, sym, refl, ap, ◌∙◌, subst, inl, inr, ⊎_elim, arith}
+-- Lists of keys with values: what writing and cutting a key does to look-ups, to the order, to the length and to the keys that pass a test.
+use Rattle.std.proofs.Common.{◌≡◌, suc, ◌≤◌, Bool, true, false, cond, ◌⊎◌, List, [], ◌∷◌, length, Some, None, Ordering, Less, Equal, Greater, sym, refl, ap, ◌∙◌, inl, inr, ⊎_elim, arith}
 use Rattle.std.proofs.lemmas.Bool.{both_ways}
 use Rattle.keys.specs.Order.{Lawful, flipped}
 use Rattle.keys.specs.Orders.{never}
-use Rattle.key_list.specs.Keys.{is_equal, put_by}
-use Rattle.tables.specs.Listings.{lookup, put, cut, Before, Ascending}
+use Rattle.key_list.specs.Keys.{is_equal, put_by, put_key}
+use Rattle.key_list.proofs.Walks.{same_some, some_none}
+use Rattle.tables.specs.Listings.{lookup, put, cut, Before, Ascending, keys, keys_where}
 
 -- the three answers that a comparison can give, each with its equation
 pub data Answer (o : Ordering) : Type 0 where
@@ -58,30 +59,22 @@ module _ {K : Type 0} (order : K → K → Ordering) (lawful : Lawful order) whe
     -- look-ups after a write
 
     pub lookup-put_same : (k : K) (v : V) (es : List (K × V)) → lookup order k (put order k v es) ≡ Some v
-    lookup-put_same k v [] = ap (λ t. cond t (Some v) None) (equal_itself k)
+    lookup-put_same k v [] = rw (equal_itself k)
     lookup-put_same k v (e ∷ es) = by (lookup-put_same k v es) (answer (order k e.0))
       where
         by : lookup order k (put order k v es) ≡ Some v → Answer (order k e.0) → lookup order k (put order k v (e ∷ es)) ≡ Some v
-        by rest (below h) = ap (λ o. lookup order k (put_by o (k, v) e es (put order k v es))) h ∙ ap (λ t. cond t (Some v) (lookup order k (e ∷ es))) (equal_itself k)
-        by rest (same h) = ap (λ o. lookup order k (put_by o (k, v) e es (put order k v es))) h ∙ ap (λ t. cond t (Some v) (lookup order k es)) (equal_itself k)
-        by rest (above h) =
-            ap (λ o. lookup order k (put_by o (k, v) e es (put order k v es))) h
-            ∙ ap (λ t. cond t (Some e.1) (lookup order k (put order k v es))) (ap is_equal (below_from_above k e.0 h))
-            ∙ rest
+        by rest (below h) = rw (h, equal_itself k)
+        by rest (same h) = rw (h, equal_itself k)
+        by rest (above h) = rw (h, below_from_above k e.0 h) rest
 
     pub lookup-put_other : (k q : K) (v : V) (es : List (K × V)) → (k ≡ q → ⊥) → lookup order q (put order k v es) ≡ lookup order q es
-    lookup-put_other k q v [] n = ap (λ t. cond t (Some v) None) (unequal k q n)
+    lookup-put_other k q v [] n = rw (unequal k q n)
     lookup-put_other k q v (e ∷ es) n = by (lookup-put_other k q v es n) (answer (order k e.0))
       where
         by : lookup order q (put order k v es) ≡ lookup order q es → Answer (order k e.0) → lookup order q (put order k v (e ∷ es)) ≡ lookup order q (e ∷ es)
-        by rest (below h) = ap (λ o. lookup order q (put_by o (k, v) e es (put order k v es))) h ∙ ap (λ t. cond t (Some v) (lookup order q (e ∷ es))) (unequal k q n)
-        by rest (same h) =
-            ap (λ o. lookup order q (put_by o (k, v) e es (put order k v es))) h
-            ∙ ap (λ t. cond t (Some v) (lookup order q es)) (unequal k q n)
-            ∙ sym (ap (λ t. cond t (Some e.1) (lookup order q es)) (unequal e.0 q (λ s. n (lawful.same k e.0 h ∙ s))))
-        by rest (above h) =
-            ap (λ o. lookup order q (put_by o (k, v) e es (put order k v es))) h
-            ∙ ap (λ x. cond (is_equal (order e.0 q)) (Some e.1) x) rest
+        by rest (below h) = rw (h, unequal k q n)
+        by rest (same h) = rw (h, unequal k q n, unequal e.0 q (λ s. n (lawful.same k e.0 h ∙ s)))
+        by rest (above h) = rw (h, rest)
 
     -- look-ups after a cut
 
@@ -90,24 +83,16 @@ module _ {K : Type 0} (order : K → K → Ordering) (lawful : Lawful order) whe
     lookup-cut_same k (e ∷ es) = by (lookup-cut_same k es) (is_equal (order e.0 k)) refl
       where
         by : lookup order k (cut order k es) ≡ None → (t : Bool) → is_equal (order e.0 k) ≡ t → lookup order k (cut order k (e ∷ es)) ≡ None
-        by rest true h = ap (λ t. lookup order k (cond t (cut order k es) (e ∷ cut order k es))) h ∙ rest
-        by rest false h =
-            ap (λ t. lookup order k (cond t (cut order k es) (e ∷ cut order k es))) h
-            ∙ ap (λ t. cond t (Some e.1) (lookup order k (cut order k es))) h
-            ∙ rest
+        by rest true h = rw h rest
+        by rest false h = rw (h, h) rest
 
     pub lookup-cut_other : (k q : K) (es : List (K × V)) → (k ≡ q → ⊥) → lookup order q (cut order k es) ≡ lookup order q es
     lookup-cut_other k q [] n = refl
     lookup-cut_other k q (e ∷ es) n = by (lookup-cut_other k q es n) (is_equal (order e.0 k)) refl
       where
         by : lookup order q (cut order k es) ≡ lookup order q es → (t : Bool) → is_equal (order e.0 k) ≡ t → lookup order q (cut order k (e ∷ es)) ≡ lookup order q (e ∷ es)
-        by rest true h =
-            ap (λ t. lookup order q (cond t (cut order k es) (e ∷ cut order k es))) h
-            ∙ rest
-            ∙ sym (ap (λ t. cond t (Some e.1) (lookup order q es)) (unequal e.0 q (λ s. n (sym (same_from_equal e.0 k h) ∙ s))))
-        by rest false h =
-            ap (λ t. lookup order q (cond t (cut order k es) (e ∷ cut order k es))) h
-            ∙ ap (λ x. cond (is_equal (order e.0 q)) (Some e.1) x) rest
+        by rest true h = rw (h, unequal e.0 q (λ s. n (sym (same_from_equal e.0 k h) ∙ s))) rest
+        by rest false h = rw (h, rest)
 
     -- the order
 
@@ -129,43 +114,35 @@ module _ {K : Type 0} (order : K → K → Ordering) (lawful : Lawful order) whe
     ascending-put k v (e ∷ es) a = by (ascending-put k v es a.1) (answer (order k e.0))
       where
         by : Ascending order (put order k v es) → Answer (order k e.0) → Ascending order (put order k v (e ∷ es))
-        by rest (below h) = subst (λ o. Ascending order (put_by o (k, v) e es (put order k v es))) (sym h) (h, a)
-        by rest (same h) = subst (λ o. Ascending order (put_by o (k, v) e es (put order k v es))) (sym h) (subst (λ x. Before order x es) (sym (lawful.same k e.0 h)) a.0, a.1)
-        by rest (above h) = subst (λ o. Ascending order (put_by o (k, v) e es (put order k v es))) (sym h) (before-put e.0 k v es (below_from_above k e.0 h) a.0, rest)
+        by rest (below h) = rw h (h, a)
+        by rest (same h) = rw h (rw (lawful.same k e.0 h) a.0, a.1)
+        by rest (above h) = rw h (before-put e.0 k v es (below_from_above k e.0 h) a.0, rest)
 
     -- a key below the first is not there
     pub lookup-before : (k : K) (es : List (K × V)) → Before order k es → Ascending order es → lookup order k es ≡ None
     lookup-before k [] b a = refl
-    lookup-before k (e ∷ es) b a =
-        ap (λ t. cond t (Some e.1) (lookup order k es)) (ap is_equal (above_from_below k e.0 b))
-        ∙ lookup-before k es (before_on k e.0 es b a.0) a.1
+    lookup-before k (e ∷ es) b a = rw (above_from_below k e.0 b) (lookup-before k es (before_on k e.0 es b a.0) a.1)
 
     lookup_first : (e : K × V) (es : List (K × V)) → lookup order e.0 (e ∷ es) ≡ Some e.1
-    lookup_first e es = ap (λ t. cond t (Some e.1) (lookup order e.0 es)) (equal_itself e.0)
+    lookup_first e es = rw (equal_itself e.0)
 
     lookup_rest : (q : K) (e : K × V) (es : List (K × V)) → (e.0 ≡ q → ⊥) → lookup order q (e ∷ es) ≡ lookup order q es
-    lookup_rest q e es n = ap (λ t. cond t (Some e.1) (lookup order q es)) (unequal e.0 q n)
-
-    some_none : {X : Type 0} {o : Option V} {v : V} → o ≡ Some v → o ≡ None → X
-    some_none e f = never (cc)
-
-    same_some : {v w : V} → Some v ≡ Some w → v ≡ w
-    same_some e = cc
+    lookup_rest q e es n = rw (unequal e.0 q n)
 
     -- the first entries of two ascending lists with equal look-ups have one key
     same_first : (e f : K × V) (es fs : List (K × V)) → Ascending order (e ∷ es) → Ascending order (f ∷ fs) → ((k : K) → lookup order k (e ∷ es) ≡ lookup order k (f ∷ fs)) → e.0 ≡ f.0
     same_first e f es fs a b l = by (answer (order e.0 f.0))
       where
         by : Answer (order e.0 f.0) → e.0 ≡ f.0
-        by (below h) = some_none (sym (l e.0) ∙ lookup_first e es) (lookup-before e.0 (f ∷ fs) h b)
+        by (below h) = some_none _ (sym (l e.0) ∙ lookup_first e es) (lookup-before e.0 (f ∷ fs) h b)
         by (same h) = lawful.same e.0 f.0 h
-        by (above h) = some_none (l f.0 ∙ lookup_first f fs) (lookup-before f.0 (e ∷ es) (below_from_above e.0 f.0 h) a)
+        by (above h) = some_none _ (l f.0 ∙ lookup_first f fs) (lookup-before f.0 (e ∷ es) (below_from_above e.0 f.0 h) a)
 
     -- ascending lists with equal look-ups are equal
     pub same_from_lookups : (es fs : List (K × V)) → Ascending order es → Ascending order fs → ((k : K) → lookup order k es ≡ lookup order k fs) → es ≡ fs
     same_from_lookups [] [] a b l = refl
-    same_from_lookups [] (f ∷ fs) a b l = some_none (l f.0 ∙ lookup_first f fs) refl
-    same_from_lookups (e ∷ es) [] a b l = some_none (sym (l e.0) ∙ lookup_first e es) refl
+    same_from_lookups [] (f ∷ fs) a b l = some_none _ (l f.0 ∙ lookup_first f fs) refl
+    same_from_lookups (e ∷ es) [] a b l = some_none _ (sym (l e.0) ∙ lookup_first e es) refl
     same_from_lookups (e ∷ es) (f ∷ fs) a b l =
         let k = same_first e f es fs a b l in
         let v : e.1 ≡ f.1 = same_some (sym (lookup_first e es) ∙ l e.0 ∙ ap (λ x. lookup order x (f ∷ fs)) k ∙ lookup_first f fs) in
@@ -202,11 +179,9 @@ module _ {K : Type 0} (order : K → K → Ordering) (lawful : Lawful order) whe
     length-put_new k v (e ∷ es) n = by (answer (order k e.0)) (length-put_new k v es)
       where
         by : Answer (order k e.0) → (lookup order k es ≡ None → length (put order k v es) ≡ suc (length es)) → length (put order k v (e ∷ es)) ≡ suc (length (e ∷ es))
-        by (below h) rest = ap (λ o. length (put_by o (k, v) e es (put order k v es))) h
-        by (same h) rest = some_none (ap (λ x. lookup order x (e ∷ es)) (lawful.same k e.0 h) ∙ lookup_first e es) n
-        by (above h) rest =
-            ap (λ o. length (put_by o (k, v) e es (put order k v es))) h
-            ∙ ap suc (rest (sym (ap (λ t. cond t (Some e.1) (lookup order k es)) (ap is_equal (below_from_above k e.0 h))) ∙ n))
+        by (below h) rest = rw h
+        by (same h) rest = some_none _ (ap (λ x. lookup order x (e ∷ es)) (lawful.same k e.0 h) ∙ lookup_first e es) n
+        by (above h) rest = rw h (ap suc (rest (rw (below_from_above k e.0 h) at n)))
 
 module _ {K V : Type 0} (order : K → K → Ordering) where
   -- no more than one entry is new
@@ -218,3 +193,45 @@ module _ {K V : Type 0} (order : K → K → Ordering) where
       by Less rest = omega arith
       by Equal rest = omega arith
       by Greater rest = omega arith
+
+-- the keys of the entries that pass a test
+
+pub keys_where-all : {K V : Type 0} (es : List (K × V)) → keys_where (λ k v. true) es ≡ keys es
+keys_where-all [] = refl
+keys_where-all (e ∷ es) = ap (λ ks. e.0 ∷ ks) (keys_where-all es)
+
+pub length-keys_where : {K V : Type 0} (test : K → V → Bool) (es : List (K × V)) → length (keys_where test es) ≤ length es
+length-keys_where test [] = omega arith
+length-keys_where test (e ∷ es) = by (test e.0 e.1) (length-keys_where test es)
+  where
+    by : (b : Bool) → length (keys_where test es) ≤ length es → length (cond b (e.0 ∷ keys_where test es) (keys_where test es)) ≤ suc (length es)
+    by true rest = omega arith
+    by false rest = omega arith
+
+module _ {K V : Type 0} (order : K → K → Ordering) (lawful : Lawful order) (test : K → V → Bool) where
+  -- a key below all entries goes in front of the keys of those that pass
+  put_key-before : (k : K) (es : List (K × V)) → Before order k es → Ascending order es → put_key order k (keys_where test es) ≡ k ∷ keys_where test es
+  put_key-before k [] b a = refl
+  put_key-before k (e ∷ es) b a = by (test e.0 e.1) (put_key-before k es (before_on order lawful k e.0 es b a.0) a.1)
+    where
+      by : (p : Bool) → put_key order k (keys_where test es) ≡ k ∷ keys_where test es → put_key order k (cond p (e.0 ∷ keys_where test es) (keys_where test es)) ≡ k ∷ cond p (e.0 ∷ keys_where test es) (keys_where test es)
+      by true rest = rw b
+      by false rest = rest
+
+  -- a new entry adds its key if it passes
+  pub keys_where-put : (k : K) (v : V) (es : List (K × V)) → Ascending order es → lookup order k es ≡ None → keys_where test (put order k v es) ≡ cond (test k v) (put_key order k (keys_where test es)) (keys_where test es)
+  keys_where-put k v [] a n = refl
+  keys_where-put k v (e ∷ es) a n = by (answer (order k e.0)) (keys_where-put k v es a.1)
+    where
+      ks : List K
+      ks = keys_where test es
+
+      over : order k e.0 ≡ Greater → (p q : Bool) → cond p (e.0 ∷ cond q (put_key order k ks) ks) (cond q (put_key order k ks) ks) ≡ cond q (put_key order k (cond p (e.0 ∷ ks) ks)) (cond p (e.0 ∷ ks) ks)
+      over h true true = rw h
+      over h true false = refl
+      over h false q = refl
+
+      by : Answer (order k e.0) → (lookup order k es ≡ None → keys_where test (put order k v es) ≡ cond (test k v) (put_key order k ks) ks) → keys_where test (put order k v (e ∷ es)) ≡ cond (test k v) (put_key order k (keys_where test (e ∷ es))) (keys_where test (e ∷ es))
+      by (below h) rest = rw (h, put_key-before k (e ∷ es) h a)
+      by (same h) rest = never (let there = ap (λ x. lookup order x (e ∷ es)) (lawful.same k e.0 h) ∙ lookup_first order lawful e es in cc)
+      by (above h) rest = rw (h, rest (rw (below_from_above order lawful k e.0 h) at n)) (over h (test e.0 e.1) (test k v))

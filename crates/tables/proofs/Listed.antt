@@ -1,6 +1,8 @@
 -- The listing of places with values: look-ups in it, and what entering, writing and striking do to it.
 use Rattle.std.proofs.Common.{◌≡◌, ℕ, zero, suc, ◌<◌, ◌≤◌, true, false, ◌≢◌, ◌⊎◌, List, [], ◌∷◌, length, get_or, set, Some, None, Option, Ordering, sym, refl, ap, ◌∙◌, inl, inr, ⊎_elim, arith}
 use Rattle.std.proofs.lemmas.List.{length-set, get_or-set_same, get_or-set_other, set-get_or}
+use Rattle.std.specs.List.{slice_get}
+use Rattle.std.proofs.lemmas.Option.{slice_get-get_or}
 use Rattle.std.proofs.lemmas.Bool.{both_ways}
 use Rattle.keys.specs.Order.{Lawful}
 use Rattle.rolls.specs.Places.{at, Absent, Distinct, occupied}
@@ -10,6 +12,10 @@ use Rattle.tables.specs.Tabled.{vacant}
 use Rattle.tables.proofs.Entries.{same_or_not, lookup-put_same, lookup-put_other, lookup-cut_same, lookup-cut_other, ascending-put, ascending-cut, same_from_lookups, length-put_new, length-put_le}
 
 module _ {K : Type 0} where
+  -- what stands at a place, written there again
+  pub set_again : (ps : List (Option K)) (p : ℕ) (v : Option K) → at ps p ≡ v → set ps p v ≡ ps
+  set_again ps p v e = ap (set ps p) (sym e) ∙ set-get_or ps p None
+
   distinct_rest : (o : Option K) (ps : List (Option K)) → Distinct (o ∷ ps) → Distinct ps
   distinct_rest o ps d p q k e f = let s = d (suc p) (suc q) k e f in omega arith
 
@@ -19,10 +25,7 @@ module _ {K : Type 0} where
 
   -- places with a key written again stay as they are
   distinct_again : (ps : List (Option K)) (p : ℕ) (k : K) → at ps p ≡ Some k → Distinct ps → Distinct (set ps p (Some k))
-  distinct_again ps p k e d q r j f g = d q r j (kept q f) (kept r g)
-    where
-      kept : (x : ℕ) → at (set ps p (Some k)) x ≡ Some j → at ps x ≡ Some j
-      kept x h = ⊎_elim (λ a. sym a ∙ h) (λ a. ap (at ps) a.0 ∙ e ∙ sym a.1 ∙ h) (after-set ps p x (Some k))
+  distinct_again ps p k e d = rw (set_again ps p (Some k) e) d
 
 pub some_value : {V : Type 0} (vs : List V) → 0 < length vs → V
 some_value [] h = absurd (omega arith)
@@ -61,6 +64,13 @@ module _ {K : Type 0} (order : K → K → Ordering) (lawful : Lawful order) whe
     lookup-listing (Some j ∷ ps) (v ∷ vs) (suc p) k d l u e =
         lookup-put_other order lawful j k v (listing order ps vs) (λ s. absent_later j ps u p (e ∙ ap Some (sym s)))
         ∙ lookup-listing ps vs p k d (omega arith) (distinct_rest (Some j) ps u) e
+
+    -- a key that stands at a place has the value there
+    pub lookup-at_place : (ps : List (Option K)) (vs : List V) (p : ℕ) (k : K) → length vs ≡ length ps → Distinct ps → at ps p ≡ Some k → lookup order k (listing order ps vs) ≡ slice_get vs p
+    lookup-at_place ps vs p k long distinct e =
+        let inside = within ps p k e in
+        let d = some_value vs (omega arith) in
+        lookup-listing ps vs p k d long distinct e ∙ sym (slice_get-get_or vs p d (omega arith))
 
     pub ascending-listing : (ps : List (Option K)) (vs : List V) → Ascending order (listing order ps vs)
     ascending-listing [] vs = tt
@@ -146,7 +156,7 @@ module _ {K : Type 0} (order : K → K → Ordering) (lawful : Lawful order) whe
     -- a value written at the place of its key
     pub listing-write : (ps : List (Option K)) (vs : List V) (p : ℕ) (k : K) (v : V) → length vs ≡ length ps → Distinct ps → at ps p ≡ Some k → listing order ps (set vs p v) ≡ put order k v (listing order ps vs)
     listing-write ps vs p k v long distinct e =
-        ap (λ qs. listing order qs (set vs p v)) (sym (ap (set ps p) (sym e) ∙ set-get_or ps p None))
+        ap (λ qs. listing order qs (set vs p v)) (sym (set_again ps p (Some k) e))
         ∙ listing-put ps vs p k long distinct (within ps p k e) v (inl e)
 
     -- a listing has an entry for each key

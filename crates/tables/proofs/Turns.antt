@@ -1,14 +1,10 @@
 -- What a roll's answers say of its places, in one form for all cases.
-use Rattle.std.proofs.Common.{◌≡◌, ℕ, ◌<◌, ◌⊎◌, List, length, set, Some, None, Ok, Err, Option, Result, sym, refl, ap, ◌∙◌, inl, inr}
-use Rattle.std.proofs.lemmas.List.{set-get_or}
-use Rattle.rolls.specs.Places.{at, Absent, Stood, Took, Entered, Struck}
+use Rattle.std.proofs.Common.{◌≡◌, ℕ, ◌<◌, ◌⊎◌, List, length, set, Some, None, Ok, Err, Option, Result, sym, ◌∙◌, inl, inr}
+use Rattle.rolls.specs.Places.{at, Absent, Stood, Took, Struck}
+use Rattle.tables.proofs.Listed.{set_again}
 use Rattle.rolls.specs.declared.fault.RollFault.{RollFault}
 
 module _ {K : Type 0} where
-  -- what stands at a place, written there again
-  set_again : (ps : List (Option K)) (p : ℕ) (v : Option K) → at ps p ≡ v → set ps p v ≡ ps
-  set_again ps p v e = ap (set ps p) (sym e) ∙ set-get_or ps p None
-
   -- a key that is entered stands at its place, which had it or was empty
   pub record Place (ps qs : List (Option K)) (k : K) (p : ℕ) : Type 0 where
     pub within : p < length ps

@@ -1,6 +1,8 @@
 -- Lists of keys with values, the keys ascending: what a table means. Two such lists with equal look-ups are equal.
-use Rattle.std.specs.Prelude.{◌≡◌, ℕ, Bool, cond, List, [], ◌∷◌, Some, None, Option}
-use Rattle.std.specs.declared.cmp.Ordering.TheVariants.{Less, Equal, Greater}
+use Rattle.std.specs.Prelude.{◌≡◌, Bool, cond, List, [], ◌∷◌, Some, None, Option}
+use Rattle.std.specs.Borrow.{Bor}
+use Rattle.std.specs.Fn.{Shared, AnyResult}
+use Rattle.std.specs.declared.cmp.Ordering.TheVariants.{Less}
 use Rattle.std.specs.declared.cmp.Ordering.{Ordering}
 pub use Rattle.key_list.specs.Keys.{is_equal, put_by}
 
@@ -47,6 +49,10 @@ module _ {K V : Type 0} where
   abbrev pub keys_where : (K → V → Bool) → List (K × V) → List K
   keys_where test [] = []
   keys_where test (e ∷ es) = cond (test e.0 e.1) (e.0 ∷ keys_where test es) (keys_where test es)
+
+  -- each call of a closure, at a key and a value, answers what a test of them gives
+  abbrev pub Tests : {F : Type 0} → Shared F (K × (Bor V × Unit {0})) Bool → (K → V → Bool) → F → Type 0
+  Tests g test f = (k : K) (v : Bor V) → AnyResult g f (k, (v, tt)) (λ r. r ≡ test k v.now)
 
   -- the entries that pass a test, in order
   abbrev pub entries_where : (K → V → Bool) → List (K × V) → List (K × V)

@@ -1,5 +1,5 @@
 -- What a table means: the keys of its roll with the values that stand at their places, as an ascending list.
-use Rattle.std.specs.Prelude.{◌≡◌, ℕ, ◌<◌, Bool, true, false, ◌⊎◌, List, [], ◌∷◌, length, Some, None, Ok, Err, vec_items, Option, Result, slice_set}
+use Rattle.std.specs.Prelude.{◌≡◌, ℕ, ◌<◌, Bool, true, false, ◌⊎◌, List, [], ◌∷◌, length, Some, None, Ok, Err, Option, Result, slice_set}
 use Rattle.keys.specs.declared.ordered_key.OrderedKey as ordered
 use Rattle.rolls.specs.declared.roll.Roll as roll
 use Rattle.rolls.specs.Places.{at, Absent, NoneEmpty}
@@ -19,20 +19,15 @@ module _ {K V R : Type 0} (m : roll.Ghosts R K) where
   abbrev pub places_of : Table K V R → List (Option K)
   places_of t = m.places t.roll
 
-  -- a table is sound if its roll is, and there is a value for each place
-  pub record Sound (t : Table K V R) : Type 0 where
-    pub roll_sound : m.sound t.roll
-    pub long : length (vec_items t.values) ≡ length (places_of t)
-
   module _ (o : ordered.Ghosts K) where
     -- the entries of a table
     abbrev pub entries : Table K V R → List (K × V)
-    entries t = listing o.order (places_of t) (vec_items t.values)
+    entries t = listing o.order (places_of t) t.values
 
     -- nothing changed: the places and the values are as before
     pub record Unchanged (before after : Table K V R) : Type 0 where
       pub same_places : places_of after ≡ places_of before
-      pub same_values : vec_items after.values ≡ vec_items before.values
+      pub same_values : after.values ≡ before.values
 
     -- a key with its value stands in the table, at a place that had the key or was empty; no other place changes
     pub record Entered (before after : Table K V R) (key : K) (value : V) (p : ℕ) : Type 0 where
@@ -55,12 +50,10 @@ module _ {K V R : Type 0} (m : roll.Ghosts R K) where
 
     -- the value of the key at a place is written; the places stay
     pub record Written (before after : Table K V R) (p : ℕ) (value : V) : Type 0 where
-      pub sound : Sound after
       pub same_places : places_of after ≡ places_of before
       pub now_entries : (key : K) → at (places_of before) p ≡ Some key → entries after ≡ put o.order key value (entries before)
 
     -- the place is empty now, and its key has no entry; no other place changes
     pub record Removed (before after : Table K V R) (p : ℕ) : Type 0 where
-      pub sound : Sound after
       pub now_places : places_of after ≡ slice_set (places_of before) p None
       pub now_entries : (key : K) → at (places_of before) p ≡ Some key → entries after ≡ cut o.order key (entries before)

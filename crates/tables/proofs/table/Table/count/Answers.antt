@@ -1,23 +1,17 @@
-use Rattle.std.proofs.Common.{◌+◌, drop, sym, ap, ◌∙◌, arith}
-use Rattle.rolls.specs.Places.{occupied}
-use Rattle.tables.specs.Tabled.{places_of}
+use Rattle.std.proofs.Common.{length, sym, ◌∙◌, rules, tests, arith}
+use Rattle.std.proofs.lemmas.Iterator.{YieldsList-from_range}
+use Rattle.std.proofs.lemmas.Iterator.Consumers.{YieldsList-from_filter_map, count_from_yields_List}
+use Rattle.rolls.specs.Places.{at}
 use Rattle.tables.proofs.Listed.{length-listing}
-use Rattle.tables.proofs.Scans.{occupied_one, occupied_none, occupied_all}
+use Rattle.tables.proofs.Scans.{length-at_places}
 use Rattle.tables.proofs.table.Table.count.Goals as goal
-use Rattle.tables.proofs.table.Table.count.Goals.{in-Some, in_default}
-
-pub loop-place-preserved : goal.loop-place-preserved
-loop-place-preserved g c =
-    let ps = places_of g.R.Roll c.args.self.now in
-    let i = c.loop-place.place in
-    let n = c.loop-place.count in
-    elim c.match-key_at.branch [
-      | in-Some w ↦ (omega (arith, w.count-is), ap (λ m. m + occupied (drop (i + 1) ps)) w.count-is ∙ occupied_one ps i n c.loop-place.invariant.1 w.in-Some.field-0 (omega arith) w.in-Some.ensures)
-      | in_default w ↦ (omega (arith, w.count-is), ap (λ m. m + occupied (drop (i + 1) ps)) w.count-is ∙ occupied_none ps i n c.loop-place.invariant.1 (omega arith) w.in_default.ensures)
-    ]
 
 pub returns : goal.returns
-returns g c sound =
+returns g c =
     let s = c.args.self.now in
-    occupied_all (g.R.Roll.places s.roll) c.loop-place.place c.loop-place.count c.loop-place.invariant.1 (omega arith)
-    ∙ sym (length-listing g.K.OrderedKey.order g.met.K.OrderedKey.lawful (g.R.Roll.places s.roll) s.values.items sound.long (g.met.R.Roll.proper s.roll sound.roll_sound).distinct)
+    let ps = g.R.Roll.places s.roll in
+    let whole = c.size.ensures.whole in
+    count_from_yields_List c.filter_map.result c.count.result c.count.ensures.ran
+    (YieldsList-from_filter_map _ (at ps) (YieldsList-from_range 0 c.size.result (length ps) c.filter_map.ensures.source (omega (arith, c.size.ensures.number))) c.filter_map.ensures.closure (λ x r q k. search (rules, tests)))
+    ∙ length-at_places ps
+    ∙ sym (length-listing g.K.OrderedKey.order g.met.K.OrderedKey.lawful ps s.values whole.long whole.proper.distinct)

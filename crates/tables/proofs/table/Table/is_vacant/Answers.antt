@@ -1,14 +1,11 @@
-use Rattle.std.proofs.Common.{sym, ◌∙◌, arith}
-use Rattle.tables.proofs.Scans.{vacant-not, vacant_more, vacant_all}
+use Rattle.std.proofs.Common.{length, is_none, ◌∙◌, rules, tests, refl, arith}
+use Rattle.std.proofs.lemmas.Iterator.{YieldsList-from_range}
+use Rattle.std.proofs.lemmas.Iterator.Search.{all_from_yields_List}
+use Rattle.rolls.specs.Places.{at}
+use Rattle.tables.proofs.Scans.{none_at_places}
 use Rattle.tables.proofs.table.Table.is_vacant.Goals as goal
 
-pub returns-in-Some : goal.returns-in-Some
-returns-in-Some g c =
-    sym (vacant-not (g.R.Roll.places c.args.roll.now) c.loop-place.place c.in-Some.field-0 (omega arith) c.in-Some.ensures) ∙ c.loop-place.invariant
-
-pub loop-place-preserved : goal.loop-place-preserved
-loop-place-preserved g c =
-    sym (vacant_more (g.R.Roll.places c.args.roll.now) c.loop-place.place (omega arith) c.in_default.ensures) ∙ c.loop-place.invariant
-
 pub returns : goal.returns
-returns g c = sym (vacant_all (g.R.Roll.places c.args.roll.now) c.loop-place.place (omega arith)) ∙ c.loop-place.invariant
+returns g c =
+    let ps = g.R.Roll.places c.args.roll.now in
+    all_from_yields_List (λ p. is_none (at ps p)) _ _ c.all.result c.all.ensures.ran (YieldsList-from_range 0 c.size.result (length ps) refl (omega (arith, c.size.ensures.number))) (λ x b q k. search (rules, tests)) ∙ none_at_places ps
