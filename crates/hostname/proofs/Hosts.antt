@@ -1,13 +1,14 @@
 -- What a hostname holds.
-use Rattle.std.proofs.Common.{◌≡◌, ℕ, ◌+◌, ◌-◌, ◌≤◌, List, ◌++◌, length, take, drop, replicate, sym, ap, ◌∙◌, arith}
+use Rattle.std.proofs.Common.{◌≡◌, ◌-◌, ◌≤◌, ◌&&◌, eqb, Bool, ◌++◌, length, take, drop, replicate, sym, ap, ◌∙◌, refl, arith}
 use mathlib.Core.List.{is_set}
 use mathlib.Core.HLevel.{is_prop→PathP}
 use native.Mathlib.Nat.{ℕ_set}
 use native.Mathlib.Bridge.{le_prop}
-use borrow.Rule.Slice.PartMut.{put_mid}
-use Rattle.std.proofs.lemmas.List.{take-append-drop, length-take-le, length-append, length-replicate, drop-replicate}
-use Rattle.std.proofs.lemmas.Slice.{take-put_mid, drop-put_mid}
-use Rattle.hostname.specs.Held.{host_bytes}
+use Rattle.std.proofs.lemmas.List.{take-append-drop, length-take-le}
+use Rattle.std.specs.Cmp.Lexicographic.{pointwise}
+use Rattle.std.proofs.lemmas.Bool.Decides.{Decides-eqb, Decides-and, Decides-like, Decides-at, same_from_decides}
+use Rattle.std.proofs.lemmas.Slice.Eq.{bytes_eq-Decides, slice_eq-Decides}
+use Rattle.hostname.specs.Held.{host_bytes, same_host}
 use Rattle.hostname.specs.declared.hostname.Hostname.{Hostname}
 
 -- a name's length
@@ -46,26 +47,13 @@ host_from_bytes a b e =
       padded = is_prop→PathP (λ i. drop (n i) (s i) ≡ replicate (253 - n i) 0) (λ i. is_set ℕ_set (drop (n i) (s i)) (replicate (253 - n i) 0)) a.padded b.padded i;
     }
 
--- bytes put over the front of zeros
-module _ (bs ys : List ℕ) (e : ys ≡ bs) (few : length bs ≤ 253) where
-  abbrev held : List ℕ
-  held = put_mid 0 (length bs - 0) (replicate 253 0) ys
-
-  same_length : length ys ≡ length bs
-  same_length = ap length e
-
-  pub take-held : take (length bs) held ≡ bs
-  take-held = take-put_mid 0 (length bs - 0) (replicate 253 0) ys (length bs) (omega (arith, same_length)) (omega arith) ∙ e
-
-  pub drop-held : drop (length bs) held ≡ replicate (253 - length bs) 0
-  drop-held =
-      drop-put_mid 0 (length bs - 0) (replicate 253 0) ys (length bs) (omega arith) (omega arith) (omega (arith, same_length))
-      ∙ drop-replicate (length bs) 253 0
-
-  pub length-held : length held ≡ 253
-  length-held =
-      ap length (sym (take-append-drop (length bs) held))
-      ∙ length-append (take (length bs) held) (drop (length bs) held)
-      ∙ ap (λ n. n + length (drop (length bs) held)) (ap length take-held)
-      ∙ ap (λ n. length bs + n) (ap length drop-held ∙ length-replicate (253 - length bs) 0)
-      ∙ omega arith
+-- what `==` says of the fields of two names is what it says of their bytes
+pub same_from_fields : (a b : Hostname) (r : Bool) → r ≡ (pointwise eqb a.bytes b.bytes && eqb a.len b.len) → r ≡ same_host a b
+same_from_fields a b r e =
+    same_from_decides r _
+    (Decides-at r _ e
+    (Decides-like _
+    (λ h. ap (λ n. take n a.bytes) h.1 ∙ ap (λ bs. take b.len bs) h.0)
+    (λ e. (same_bytes a b e, same_len a b e))
+    (Decides-and _ _ (slice_eq-Decides Decides-eqb a.bytes b.bytes _ refl) (Decides-eqb a.len b.len))))
+    (bytes_eq-Decides (host_bytes a) (host_bytes b))

@@ -1,8 +1,16 @@
 -- One pass over a name tells whether it is well formed.
-use Rattle.std.proofs.Common.{◌≡◌, ℕ, suc, ◌+◌, ◌<◌, ◌≤◌, Bool, true, false, cond, not, ◌&&◌, ◌||◌, eqb, ltb, leb, List, [], ◌∷◌, length, get_or, drop, Some, None, Option, sym, refl, ap, ◌∙◌, ⊎_elim, add-zero, zero-add, arith}
-use Rattle.std.proofs.lemmas.List.{at_drop_more, at_drop_all}
+use Rattle.std.proofs.Common.{◌≡◌, ℕ, suc, ◌+◌, ◌<◌, ◌≤◌, Bool, true, false, cond, not, ◌&&◌, ◌||◌, eqb, ltb, leb, List, [], ◌∷◌, length, Some, None, Option, MatchOption, Bor, sym, refl, ap, subst, ◌∙◌, ⊎_elim, add-zero, zero-add, arith}
+use Rattle.std.proofs.Math.Bool.{and-true}
 use Rattle.std.proofs.lemmas.Bool.{cases_lt, cond-true, cond-false, lt-ltb, le-ltb, le-leb, lt-leb, ne_eqb}
 use Rattle.std.proofs.lemmas.Bool.Decides.{nat_tests}
+use Rattle.std.proofs.lemmas.List.{nil_from_length}
+use Rattle.std.specs.ControlFlow.{continue_value}
+use Rattle.std.specs.Fn.{Called, Mut}
+use Rattle.std.specs.Iterator.{Yields, TryFoldTurn, TryFoldsItems}
+use Rattle.std.specs.List.{FoldsTo}
+use Rattle.std.specs.Slice.Iter.{iter_steps, iter_rest}
+use Rattle.std.specs.declared.ops.ControlFlow.{ControlFlow}
+use Rattle.std.specs.declared.slice.Iter.{Iter}
 use Rattle.hostname.specs.Names.{is_letter, is_digit, is_hyphen, is_dot, is_label_byte, all, hyphen_first, hyphen_last, is_label, with_first, labels, well_formed}
 use Rattle.hostname.specs.Scan.{nothing_read, may_end, longer, past_dot, in_label, after}
 use Rattle.hostname.specs.declared.label.Label.{Label}
@@ -61,10 +69,6 @@ start_of (c ∷ cs) = start-at (is_dot c) c cs
 
 -- one byte more of a label
 
-and_true : (t : Bool) → (t && true) ≡ t
-and_true true = refl
-and_true false = refl
-
 shuffled : (a b x y w z : Bool) → (a && b && (x && y) && w && z) ≡ (x && w && (a && b && y && true && z))
 shuffled a b x y w z = grind arith
 
@@ -82,7 +86,7 @@ regrouped : (a b c d : Bool) → (a && b && c && d) ≡ (a && b && (c && d))
 regrouped a b c d = grind arith
 
 are_more : (n : ℕ) (h : Bool) (c : ℕ) (ls : List (List ℕ)) → are_rest n h (with_first c ls) ≡ (is_label_byte c && not (eqb n 0 && is_hyphen c) && are_rest (n + 1) (is_hyphen c) ls)
-are_more n h c [] = and_true (is_rest n h (c ∷ [])) ∙ rest_more n h c []
+are_more n h c [] = and-true (is_rest n h (c ∷ [])) ∙ rest_more n h c []
 are_more n h c (l ∷ ls) =
     ap (λ t. t && all is_label ls) (rest_more n h c l)
     ∙ regrouped (is_label_byte c) (not (eqb n 0 && is_hyphen c)) (is_rest (n + 1) (is_hyphen c) l) (all is_label ls)
@@ -157,7 +161,7 @@ module _ (l : Label) (few : l.len ≤ 63) (cs : List ℕ) (rest : (m : Label) �
   step_agrees false c = byte_agrees c
 
 pub scan-agrees : (bs : List ℕ) (l : Label) → l.len ≤ 63 → scan l bs ≡ are_rest l.len l.hyphen (labels bs)
-scan-agrees [] l few = rest_ends l few ∙ sym (and_true _)
+scan-agrees [] l few = rest_ends l few ∙ sym (and-true _)
 scan-agrees (c ∷ cs) l few = step_agrees l few cs (scan-agrees cs) (is_dot c) c
 
 -- the whole name
@@ -172,14 +176,30 @@ whole_name (c ∷ cs) few =
 pub scan_tells : (bs : List ℕ) → length bs ≤ 253 → scan nothing_read bs ≡ well_formed bs
 scan_tells bs few = scan-agrees bs nothing_read (omega arith) ∙ start_of bs ∙ whole_name bs few
 
--- what is left of a name
+-- the fold over the bytes of a name, each turn of which reads one byte more
 
-module _ (l : Label) (bs : List ℕ) (i : ℕ) where
-  pub scan_more : (m : Label) → i < length bs → after l (get_or bs i 0) ≡ Some m → scan m (drop (i + 1) bs) ≡ scan l (drop i bs)
-  scan_more m h e = sym (at_drop_more (scan l) bs i 0 h ∙ ap (λ o. goes_on o (λ m. scan m (drop (i + 1) bs))) e)
+module _ {F : Type 0} (E : Type 0) (g : Mut F (Label × (Bor ℕ × Unit {0})) (Option Label)) (f : F) (reads : (l : Label) (x : Bor ℕ) (r : Option Label) (q : F) → Called g f (l, (x, tt)) r q → (q ≡ f) × (r ≡ after l x.now)) where
+  abbrev Branches : Option Label → ControlFlow E Label → Type 0
+  Branches r c = r ≡ continue_value c
 
-  pub scan_stops : i < length bs → after l (get_or bs i 0) ≡ None → scan l (drop i bs) ≡ false
-  scan_stops h e = at_drop_more (scan l) bs i 0 h ∙ ap (λ o. goes_on o (λ m. scan m (drop (i + 1) bs))) e
+  -- turns that go on
+  scan_kept : (xs : List (Bor ℕ)) (s t : Iter ℕ) (p q : F × Label) → p.0 ≡ f → Yields iter_steps s xs t → FoldsTo (TryFoldTurn g Branches) p xs q → (q.0 ≡ f) × (scan p.1 (iter_rest s) ≡ scan q.1 (iter_rest t))
+  scan_kept [] s t p q e y h =
+      (sym (ap (λ k. k.0) h) ∙ e, ap (λ k. scan k.1 (iter_rest s)) h ∙ ap (λ i. scan q.1 (iter_rest i)) y)
+  scan_kept (x ∷ xs) s t p q e y h =
+      let k = reads p.1 x h.1.0 h.0.0 (subst (λ j. Called g j (p.1, (x, tt)) h.1.0 h.0.0) e h.1.1) in
+      let n = scan_kept xs y.0 t h.0 q k.0 y.2 h.2 in
+      (n.0, ap (scan p.1) y.1 ∙ ap (λ o. goes_on o (λ m. scan m (iter_rest y.0))) (sym k.1 ∙ h.1.2) ∙ n.1)
 
-  pub scan_ends : length bs ≤ i → scan l (drop i bs) ≡ may_end l
-  scan_ends h = at_drop_all (scan l) bs i h
+  -- the end of the name, or a byte that no name has there
+  scan_last : (o : Option (Bor ℕ)) (t u : Iter ℕ) (p : F × Label) (r : Option Label) → p.0 ≡ f → iter_steps t o u → MatchOption o (r ≡ Some p.1) (λ x. (v : Option Label) × (q : F) × E × Called g p.0 (p.1, (x, tt)) v q × (v ≡ None) × (r ≡ None)) → goes_on r may_end ≡ scan p.1 (iter_rest t)
+  scan_last None t u p r e s h = ap (λ o. goes_on o may_end) h ∙ sym (ap (scan p.1) (nil_from_length (iter_rest t) s.0))
+  scan_last (Some x) t u p r e s h =
+      let k = reads p.1 x h.0 h.1 (subst (λ j. Called g j (p.1, (x, tt)) h.0 h.1) e h.3) in
+      ap (λ o. goes_on o may_end) h.5
+      ∙ sym (ap (scan p.1) s ∙ ap (λ o. goes_on o (λ m. scan m (iter_rest u))) (sym k.1 ∙ h.4))
+
+  pub scan_folded : (s u : Iter ℕ) (l : Label) (r : Option Label) → TryFoldsItems iter_steps g Branches (λ _ o. o ≡ None) s f l r u → goes_on r may_end ≡ scan l (iter_rest s)
+  scan_folded s u l r d =
+      let k = scan_kept d.0 s d.4.0 (f, l) (d.2, d.3) refl d.4.1 d.5 in
+      scan_last d.1 d.4.0 u (d.2, d.3) r k.0 d.4.2 d.6 ∙ sym k.1

@@ -48,13 +48,9 @@ impl Label {
     fn longer(self, hyphen: bool) -> Option<Label>
         ensures { result ≡ longer self hyphen }
     {
-        if self.len < LONGEST {
-            Some(Label {
-                len: self.len + 1,
-                hyphen,
-            })
-        } else {
-            None
-        }
+        (self.len < LONGEST).then(|| Label {
+            len: self.len + 1,
+            hyphen,
+        })
     }
 }

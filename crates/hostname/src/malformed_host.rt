@@ -1,11 +1,11 @@
 ghost use Rattle.std.specs.Prelude.{◌≡◌};
 ghost use Rattle.hostname.specs.Numbers.{number_of};
 
-use std::error::Error;
-use std::fmt;
+use thiserror::Error;
 
 // The refusal of a host that is no name of a host.
-#[derive(Clone, Copy, Debug, PartialEq, Eq)]
+#[derive(Clone, Copy, Debug, PartialEq, Eq, Error)]
+#[error("the host is malformed")]
 pub struct MalformedHost;
 
 impl MalformedHost {
@@ -16,12 +16,3 @@ impl MalformedHost {
         2
     }
 }
-
-// What is printed of the refusal.
-impl fmt::Display for MalformedHost {
-    fn fmt<W: fmt::Write>(&self, f: &mut fmt::Formatter<W>) -> fmt::Result {
-        f.pad("the host is malformed")
-    }
-}
-
-impl Error for MalformedHost {}

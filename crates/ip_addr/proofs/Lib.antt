@@ -1,4 +1,4 @@
-pub mod Picks
+pub mod Registries
 pub mod Longest
 pub mod Numbers
 pub mod Sames

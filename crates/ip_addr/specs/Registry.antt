@@ -1,7 +1,7 @@
 -- A special-purpose registry: in which of its blocks an address lies, which of these has the longest
 -- prefix, and whether the address is global.
-use Rattle.std.specs.Prelude.{◌≡◌, ℕ, ◌-◌, ◌/◌, ◌^◌, ◌≤◌, Bool, true, false, cond, not, ◌&&◌, ◌||◌, List, [], ◌∷◌, Some, None, filter, Option, ◌==◌, nat_lt}
-use Rattle.std.specs.List.{ContainsAt as Has, AllByRecursion}
+use Rattle.std.specs.Prelude.{◌≡◌, ℕ, ◌-◌, ◌/◌, ◌^◌, ◌≤◌, Bool, true, false, cond, not, ◌&&◌, List, [], ◌∷◌, Some, None, filter, Option, ◌==◌, nat_lt}
+use Rattle.std.specs.List.{ContainsAt as Has, AllByRecursion, list_any}
 use Rattle.ip_addr.specs.declared.block.Block.{Block}
 use Rattle.ip_addr.specs.declared.global.Global.{Global}
 use Rattle.ip_addr.specs.declared.global.Global.TheVariants.{True, False, NotApplicable}
@@ -24,8 +24,7 @@ bars width block address = lies_in width block address && not (says_true block.g
 
 -- whether a block of a registry keeps an address from being global
 abbrev pub is_barred : ℕ → ℕ → List Block → Bool
-is_barred width address [] = false
-is_barred width address (b ∷ bs) = bars width b address || is_barred width address bs
+is_barred width address blocks = list_any (λ b. bars width b address) blocks
 
 -- the blocks of a registry in which an address lies
 abbrev pub blocks_around : ℕ → ℕ → List Block → List Block

@@ -1,10 +1,11 @@
-ghost use Rattle.std.specs.Prelude.{◌≡◌};
-ghost use Rattle.ip_addr.specs.Registry.{lies_in, bars, is_longer};
+ghost use Rattle.std.specs.Prelude.{◌≡◌, Some};
+ghost use Rattle.ip_addr.specs.Registry.{lies_in, bars, or_longer};
 
+use crate::address_bits::AddressBits;
 use crate::global::Global;
 
 // A block of addresses, and what a special-purpose registry says of it.
-#[derive(Clone, Copy, Debug)]
+#[derive(Clone, Copy, Debug, PartialEq, Eq)]
 pub struct Block {
     // The first address of the block, as a number.
     pub base: u128,
@@ -15,29 +16,31 @@ pub struct Block {
 }
 
 impl Block {
-    // Whether an address of so many bits lies in the block.
-    pub(crate) fn contains(&self, width: u8, address: u128) -> bool
-        ensures { result ≡ lies_in width self.now address }
+    // Whether an address lies in the block.
+    #[tactic(auto, using(crate::proofs::Registries::all_agree))]
+    pub(crate) fn contains(&self, address: AddressBits) -> bool
+        ensures { result ≡ lies_in address.width self.now address.number }
     {
         let Block { base, prefix, .. } = *self;
-        let rest = width.saturating_sub(prefix);
-        rest >= 128 || address >> rest == base >> rest
+        let rest = address.width.saturating_sub(prefix);
+        rest >= 128 || address.number >> rest == base >> rest
     }
 
-    // Whether the block keeps an address of so many bits from being global.
-    pub(crate) fn bars(&self, width: u8, address: u128) -> bool
-        ensures { result ≡ bars width self.now address }
+    // Whether the block keeps an address from being global.
+    pub(crate) fn bars(&self, address: AddressBits) -> bool
+        ensures { result ≡ bars address.width self.now address.number }
     {
-        self.contains(width, address) && !self.global.is_true()
+        self.contains(address) && !self.global.is_true()
     }
 
-    // Whether the block has a longer prefix than the other one, or there is no other one.
-    pub(crate) fn is_longer(&self, other: Option<Block>) -> bool
-        ensures { result ≡ is_longer self.now other }
+    // The other block if its prefix is longer, or else this one.
+    pub(crate) fn or_longer(self, other: Block) -> Block
+        ensures { result ≡ or_longer self (Some other) }
     {
-        match other {
-            Some(other) => self.prefix > other.prefix,
-            None => true,
+        if other.prefix > self.prefix {
+            other
+        } else {
+            self
         }
     }
 }

@@ -2,7 +2,7 @@ ghost use Rattle.std.specs.Prelude.{◌≡◌};
 ghost use Rattle.ip_addr.specs.Registry.{says_true};
 
 // What the column "Global" of a special-purpose registry says of a block.
-#[derive(Clone, Copy, Debug)]
+#[derive(Clone, Copy, Debug, PartialEq, Eq)]
 pub enum Global {
     // A packet to the block may be forwarded beyond one administrative domain.
     True,

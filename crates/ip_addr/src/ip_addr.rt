@@ -1,16 +1,16 @@
 ghost use Rattle.std.specs.Prelude.{◌≡◌};
 ghost use Rattle.ip_addr.specs.Addresses.{width_of, number_of, table_of, is_global, most_specific, MostSpecific, same_ip};
 
+use crate::address_bits::AddressBits;
 use crate::block::Block;
 use crate::ipv4_addr::Ipv4Addr;
 use crate::ipv6_addr::Ipv6Addr;
-use crate::octets::{number_of, same_octets};
 use crate::registry::{is_barred, longest};
 use crate::v4_registry::v4_blocks;
 use crate::v6_registry::v6_blocks;
 
 // An IP address of either kind.
-#[derive(Clone, Copy, Debug)]
+#[derive(Clone, Copy, Debug, PartialEq, Eq)]
 pub enum IpAddr {
     // An address of 32 bits.
     V4(Ipv4Addr),
@@ -24,45 +24,39 @@ impl IpAddr {
     pub fn is_global(&self) -> bool
         ensures { result ≡ is_global self.now }
     {
-        !is_barred(self.blocks(), self.width(), self.number())
+        !is_barred(self.blocks(), self.bits())
     }
 
     // Of the special-purpose blocks in which the address lies, the one with the longest prefix.
+    #[tactic(auto, using(crate::proofs::Longest::most_specific_is))]
     pub fn most_specific(&self) -> Option<Block>
         ensures answer { result ≡ most_specific self.now }
         ensures longest { MostSpecific self.now result }
     {
-        longest(self.blocks(), self.width(), self.number())
+        longest(self.blocks(), self.bits())
     }
 
     // Whether both addresses are of one kind and have the same octets.
     pub fn is_same(&self, other: &IpAddr) -> bool
         ensures { result ≡ same_ip self.now other.now }
     {
-        match (self, other) {
-            (IpAddr::V4(a), IpAddr::V4(b)) => same_octets(&a.octets, &b.octets),
-            (IpAddr::V6(a), IpAddr::V6(b)) => same_octets(&a.octets, &b.octets),
-            _ => false,
-        }
+        self == other
     }
 
-    // How many bits an address of this kind has.
-    fn width(&self) -> u8
-        ensures { result ≡ width_of self.now }
+    // The address as a number of so many bits.
+    fn bits(&self) -> AddressBits
+        ensures width { result.width ≡ width_of self.now }
+        ensures number { result.number ≡ number_of self.now }
     {
         match self {
-            IpAddr::V4(_) => 32,
-            IpAddr::V6(_) => 128,
-        }
-    }
-
-    // The address as a number.
-    fn number(&self) -> u128
-        ensures { result ≡ number_of self.now }
-    {
-        match self {
-            IpAddr::V4(address) => number_of(&address.octets),
-            IpAddr::V6(address) => number_of(&address.octets),
+            IpAddr::V4(address) => AddressBits {
+                width: 32,
+                number: u32::from(*address).into(),
+            },
+            IpAddr::V6(address) => AddressBits {
+                width: 128,
+                number: u128::from(*address),
+            },
         }
     }
 

@@ -1,12 +1,12 @@
 #![tactic(auto)]
 
 // IP addresses, and which of them are global by the special-purpose registries of RFC 6890.
+mod address_bits;
 mod block;
 mod global;
 mod ip_addr;
 mod ipv4_addr;
 mod ipv6_addr;
-mod octets;
 mod registry;
 mod v4_registry;
 mod v6_registry;

@@ -19,10 +19,8 @@ const V6_NAMES: [(u128, u8, &str); 13] = [
 
 // How a block of IPv6 is written; a block that has no name here is written as `?`.
 pub(crate) fn of_v6_block(block: &Block) -> &'static str {
-    for (base, prefix, name) in V6_NAMES {
-        if base == block.base && prefix == block.prefix {
-            return name;
-        }
-    }
-    "?"
+    V6_NAMES
+        .iter()
+        .find(|(base, prefix, _)| *base == block.base && *prefix == block.prefix)
+        .map_or("?", |(_, _, name)| name)
 }

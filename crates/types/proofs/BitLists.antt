@@ -1,11 +1,11 @@
 -- Bits of numbers, of lists of bytes and of bit vectors.
-use Rattle.std.proofs.Common.{◌≡◌, ℕ, zero, suc, ◌+◌, ◌-◌, ◌*◌, ◌/◌, ◌%◌, ◌^◌, ◌<◌, ◌≤◌, min, Bool, true, false, not, eqb, ltb, List, [], ◌∷◌, ◌++◌, length, get_or, take, drop, set, Some, None, sym, refl, ap, ◌∙◌, ⊎_elim, div-one, arith}
+use Rattle.std.proofs.Common.{◌≡◌, ℕ, zero, suc, ◌+◌, ◌-◌, ◌*◌, ◌/◌, ◌%◌, ◌^◌, ◌<◌, ◌≤◌, min, Bool, false, cond, not, eqb, ltb, List, [], ◌∷◌, ◌++◌, length, get_or, take, drop, set, Some, None, sym, refl, ap, ◌∙◌, ⊎_elim, div-one, arith}
 use Prim.Native.Nat.{differ}
 use native.Mathlib.Nat.{pow-succ', div-div-eq-div-mul}
 use lib.Bits.{bit_and, bit_xor, xor_step, xor_zero_r}
 use Rattle.std.proofs.lemmas.Nat.{and_mask}
 use Rattle.std.proofs.lemmas.List.{length-append, get_or_append_left, get_or-append_right, set-append_left, set-append_right, get_or-take, length-take, set-get_or, set_past, drop-set-lt}
-use Rattle.std.proofs.lemmas.Bool.{cases_lt, eq-eqb, ne_eqb, lt-ltb, le-ltb}
+use Rattle.std.proofs.lemmas.Bool.{cases_lt, cond-true, cond-false, eq-eqb, ne_eqb, lt-ltb, le-ltb}
 use Rattle.types.specs.Bits.{odd, low_bits, bits_of, bits, bit_at, Written}
 use Rattle.types.specs.declared.bit_vec.BitVec.{BitVec}
 
@@ -137,22 +137,18 @@ module _ (v : BitVec) where
   all_bits : length (bits_of v.bytes) ≡ 64
   all_bits = omega (arith, length-bits_of v.bytes, v.whole)
 
-  length-bits : length (bits v) ≡ min v.len 64
-  length-bits = length-take v.len (bits_of v.bytes) ∙ ap (λ n. min v.len n) all_bits
+  pub bits_count : length (bits v) ≡ min v.len 64
+  bits_count = length-take v.len (bits_of v.bytes) ∙ ap (λ n. min v.len n) all_bits
 
-  pub bits_past : (i : ℕ) → min v.len 64 ≤ i → (None ≡ bit_at (bits v) i) × (false ≡ ltb i (length (bits v)))
-  bits_past i h =
-      let p : length (bits v) ≤ i = omega (arith, length-bits) in
-      (sym (bit_at_past (bits v) i p), sym (le-ltb i (length (bits v)) p))
-
-  pub bits_there : (i : ℕ) → i < v.len → i < 64 → (Some (eqb (bit_and (get_or v.bytes (i / 8) 0 / 2 ^ (i % 8)) 1) 1) ≡ bit_at (bits v) i) × (true ≡ ltb i (length (bits v)))
-  bits_there i h k =
-      let p : i < length (bits v) = omega (arith, length-bits) in
-      let e : get_or (bits v) i false ≡ eqb (bit_and (get_or v.bytes (i / 8) 0 / 2 ^ (i % 8)) 1) 1 = get_or-take v.len (bits_of v.bytes) i false h ∙ bits_of-at v.bytes i (omega (arith, v.whole)) ∙ sym (odd_is _) in
-      (ap Some (sym e) ∙ sym (bit_at_is (bits v) i p), sym (lt-ltb i (length (bits v)) p))
-
-  pub bits-within : (i : ℕ) → i < length (bits v) → (i < v.len) × (i < 64)
-  bits-within i h = (omega (arith, length-bits), omega (arith, length-bits))
+  pub bit_read : (i : ℕ) → bit_at (bits v) i ≡ cond (ltb i (min v.len 64)) (Some (eqb (bit_and (get_or v.bytes (i / 8) 0 / 2 ^ (i % 8)) 1) 1)) None
+  bit_read i =
+      ⊎_elim
+      (λ h.
+      bit_at_is (bits v) i (omega (arith, bits_count))
+      ∙ ap Some (get_or-take v.len (bits_of v.bytes) i false (omega arith) ∙ bits_of-at v.bytes i (omega (arith, v.whole)) ∙ sym (odd_is _))
+      ∙ sym (cond-true _ _ _ (lt-ltb i (min v.len 64) h)))
+      (λ h. bit_at_past (bits v) i (omega (arith, bits_count)) ∙ sym (cond-false _ _ _ (le-ltb i (min v.len 64) h)))
+      (cases_lt i (min v.len 64))
 
   -- past the last bit a write changes nothing
   pub written_past : (i : ℕ) (bit : Bool) → length (bits v) ≤ i → Written v v i bit
@@ -161,11 +157,11 @@ module _ (v : BitVec) where
   -- a write changes one byte so that one of its bits is as given
   pub written_there : (w : BitVec) (i byte : ℕ) (bit : Bool) → w.index ≡ v.index → w.len ≡ v.len → w.bytes ≡ set v.bytes (i / 8) byte → i < length (bits v) → low_bits 8 byte ≡ set (low_bits 8 (get_or v.bytes (i / 8) 0)) (i % 8) bit → Written v w i bit
   written_there w i byte bit e f g h l =
-      let inside = bits-within i h in
-      let all : bits_of w.bytes ≡ set (bits_of v.bytes) i bit = ap bits_of g ∙ bits_of-set v.bytes i byte bit (omega (arith, v.whole, inside.1)) l in
+      let few = bits_count in
+      let all : bits_of w.bytes ≡ set (bits_of v.bytes) i bit = ap bits_of g ∙ bits_of-set v.bytes i byte bit (omega (arith, v.whole)) l in
       record {
         same_index = e;
         same_len = f;
         now_bits = ap (λ n. take n (bits_of w.bytes)) f ∙ ap (take v.len) all ∙ set-take v.len (bits_of v.bytes) i bit;
-        same_spare = ap (λ n. drop n (bits_of w.bytes)) f ∙ ap (drop v.len) all ∙ drop-set-lt v.len (bits_of v.bytes) i bit inside.0;
+        same_spare = ap (λ n. drop n (bits_of w.bytes)) f ∙ ap (drop v.len) all ∙ drop-set-lt v.len (bits_of v.bytes) i bit (omega arith);
       }

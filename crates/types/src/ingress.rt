@@ -6,7 +6,7 @@ use hostname::Hostname;
 use ip_addr::IpAddr;
 
 // What we dial to connect to a peer.
-#[derive(Clone, Copy, Debug)]
+#[derive(Clone, Copy, Debug, PartialEq, Eq)]
 pub enum Ingress {
     // An IP address with a port.
     Socket(SocketAddr),
@@ -52,16 +52,11 @@ impl Ingress {
     }
 
     // Whether the other is the same: of one kind, with the same address or host and the same port.
+    #[tactic(auto, using(hostname::proofs::Hosts::same_from_fields))]
     pub fn is_same(&self, other: &Ingress) -> bool
         ensures { result ≡ same_ingress self.now other.now }
     {
-        match (self, other) {
-            (Ingress::Socket(a), Ingress::Socket(b)) => a.ip.is_same(&b.ip) && a.port == b.port,
-            (Ingress::Dns { host: a, port: p }, Ingress::Dns { host: b, port: q }) => {
-                a.is_same(b) && p == q
-            }
-            _ => false,
-        }
+        self == other
     }
 
     // Whether its host is well formed; a socket always is.

@@ -27,14 +27,14 @@ impl Moment {
     pub fn is_earlier(&self, other: &Moment) -> bool
         ensures { result ≡ earlier self.now other.now }
     {
-        self.millis < other.millis
+        self < other
     }
 
     // Whether this moment is after the other.
     pub fn is_later(&self, other: &Moment) -> bool
         ensures { result ≡ earlier other.now self.now }
     {
-        self.millis > other.millis
+        self > other
     }
 }
 
@@ -42,10 +42,5 @@ impl Moment {
 pub fn earliest(first: Option<Moment>, second: Moment) -> Moment
     ensures { result ≡ earliest_of first second }
 {
-    match first {
-        Some(first) => Moment {
-            millis: first.millis.min(second.millis),
-        },
-        None => second,
-    }
+    first.map_or(second, |first| first.min(second))
 }

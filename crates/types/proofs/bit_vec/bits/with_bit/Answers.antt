@@ -1,27 +1,18 @@
-use Rattle.std.proofs.Common.{◌≡◌, Bool, true, false, not, set, sym, refl, ap, ◌∙◌}
+use Rattle.std.proofs.Common.{◌≡◌, Bool, false, not, set, sym, ap, ◌∙◌, arith}
 use mathlib.Core.Bool.{beq}
 use lib.Bits.{bit_xor}
 use Rattle.std.proofs.lemmas.Nat.{one_shl}
-use Rattle.std.proofs.lemmas.Bool.{both_ways}
+use Rattle.std.specs.Cmp.{booleans_Decides}
 use Rattle.types.specs.Bits.{low_bits}
 use Rattle.types.proofs.BitLists.{low_bits_kept, low_bits-turned, odd_is}
 use Rattle.types.proofs.bit_vec.bits.with_bit.Goals as goal
 
-same : (old bit : Bool) → beq old bit ≡ true → old ≡ bit
-same true true e = refl
-same true false e = absurd (both_ways _ refl e)
-same false true e = absurd (both_ways _ refl e)
-same false false e = refl
-
 turned : (old bit : Bool) → beq old bit ≡ false → not old ≡ bit
-turned true true e = absurd (both_ways _ e refl)
-turned true false e = refl
-turned false true e = refl
-turned false false e = absurd (both_ways _ e refl)
+turned old bit e = grind arith
 
 pub returns-then-old-bit : goal.returns-then-old-bit
 returns-then-old-bit c =
-    low_bits_kept c.args.byte c.args.k c.args.bit c.requires (sym (odd_is _) ∙ same _ _ c.if-old-bit.true)
+    low_bits_kept c.args.byte c.args.k c.args.bit c.requires (sym (odd_is _) ∙ (booleans_Decides _ _).0 c.if-old-bit.true)
 
 pub returns-else-old-bit : goal.returns-else-old-bit
 returns-else-old-bit c =
