@@ -2,51 +2,52 @@ ghost use Rattle.std.specs.Prelude.{◌≡◌};
 ghost use Rattle.model.specs.Faults.{number_of, record_fault};
 
 use record::RecordFault;
+use thiserror::Error;
 
 // Why a directory refuses a call.
-#[derive(Clone, Copy, Debug, PartialEq, Eq)]
+#[derive(Clone, Copy, Debug, PartialEq, Eq, Error)]
 pub enum Fault {
-    // A list of the caller's has fewer than 64 places.
+    #[error("a list of the caller's has fewer than 64 places")]
     ShortList,
-    // A host is malformed.
+    #[error("a host is malformed")]
     MalformedHost,
-    // The number of sets to hold is not 1 to 8.
+    #[error("the number of sets to hold is not 1 to 8")]
     BadMaxSets,
-    // A roll that was given is not empty.
+    #[error("a roll that was given is not empty")]
     RollInUse,
-    // Ourselves and the bootstrappers do not fit.
+    #[error("ourselves and the bootstrappers do not fit")]
     TooManyBootstrappers,
-    // A list of keys does not ascend.
+    #[error("a list of keys does not ascend")]
     NotAscending,
-    // The index is held already.
+    #[error("the index is held already")]
     IndexHeld,
-    // The index is below the newest.
+    #[error("the index is below the newest")]
     IndexBelowNewest,
-    // The new keys do not find places.
+    #[error("the new keys do not find places")]
     TooManyPeers,
-    // The peer has no record.
+    #[error("the peer has no record")]
     NoRecord,
-    // The peer cannot be dialled.
+    #[error("the peer cannot be dialled")]
     NotDialable,
-    // The peer is blocked.
+    #[error("the peer is blocked")]
     Blocked,
-    // It is too early for another reservation.
+    #[error("it is too early for another reservation")]
     TooEarly,
-    // There may be no connection to the peer.
+    #[error("there may be no connection to the peer")]
     NotEligible,
-    // The peer is reserved or connected already.
+    #[error("the peer is reserved or connected already")]
     NotInert,
-    // The peer is not reserved.
+    #[error("the peer is not reserved")]
     NotReserved,
-    // The peer has nothing to release.
+    #[error("the peer has nothing to release")]
     IsInert,
-    // The peer is blocked already.
+    #[error("the peer is blocked already")]
     BlockedAlready,
-    // We are never blocked.
+    #[error("we are never blocked")]
     Ourselves,
-    // There is no place for another block.
+    #[error("there is no place for another block")]
     TooManyBlocks,
-    // The vector has not one bit for each primary.
+    #[error("the vector has not one bit for each primary")]
     WrongBits,
 }
 

@@ -1,7 +1,7 @@
 use types::Moment;
 
 // Whether a peer can be dialled.
-#[derive(Clone, Copy, Debug)]
+#[derive(Clone, Copy, Debug, PartialEq, Eq)]
 pub enum DialStatus {
     // Yes, at once.
     Now,

@@ -80,20 +80,15 @@ impl<K: Key> Record<K> {
         ensures taken { result ≡ takes self.old.address info }
         ensures after { self.new ≡ updated self.old info }
     {
-        match self.address {
+        let is_news = match self.address {
             Address::Myself(_) => false,
-            Address::Unknown | Address::Bootstrapper(_) => {
-                self.address = Address::Discovered(info, 0);
-                true
-            }
-            Address::Discovered(old, _) => {
-                if !old.timestamp.is_earlier(&info.timestamp) {
-                    return false;
-                }
-                self.address = Address::Discovered(info, 0);
-                true
-            }
+            Address::Unknown | Address::Bootstrapper(_) => true,
+            Address::Discovered(old, _) => old.timestamp < info.timestamp,
+        };
+        if is_news {
+            self.address = Address::Discovered(info, 0);
         }
+        is_news
     }
 
     // One set more has the peer as a primary.
@@ -140,7 +135,7 @@ impl<K: Key> Record<K> {
         if !self.is_blockable() || !self.is_inert() {
             return ReserveResult::Unavailable;
         }
-        if at.is_earlier(&self.next_reservable_at) {
+        if at < self.next_reservable_at {
             return ReserveResult::RateLimited;
         }
         self.status = Status::Reserved;
@@ -156,14 +151,12 @@ impl<K: Key> Record<K> {
         ensures answer { result ≡ connect_answer self.old.status }
         ensures after { self.new ≡ connected self.old }
     {
-        match self.status {
-            Status::Reserved => {
-                self.dial_success();
-                self.status = Status::Active;
-                Ok(())
-            }
-            Status::Inert | Status::Active => Err(RecordFault::NotReserved),
+        if self.status != Status::Reserved {
+            return Err(RecordFault::NotReserved);
         }
+        self.dial_success();
+        self.status = Status::Active;
+        Ok(())
     }
 
     // Ends a reservation or a connection. A reservation of a dial that did not come up counts as a
@@ -186,16 +179,12 @@ impl<K: Key> Record<K> {
     fn dial_failure(&mut self)
         ensures { self.new ≡ with_address self.old (fell_through self.old.address Reserved self.old.role) }
     {
-        let Some(role) = self.role else {
-            return;
-        };
-        let Role::Dialer(ingress) = role else {
-            return;
-        };
-        if let Address::Discovered(info, failures) = self.address {
-            if info.ingress.is_same(&ingress) {
-                self.address = Address::Discovered(info, failures.saturating_add(1));
-            }
+        if let Some(role) = self.role
+            && let Role::Dialer(ingress) = role
+            && let Address::Discovered(info, failures) = self.address
+            && info.ingress.is_same(&ingress)
+        {
+            self.address = Address::Discovered(info, failures.saturating_add(1));
         }
     }
 
@@ -203,13 +192,10 @@ impl<K: Key> Record<K> {
     fn dial_success(&mut self)
         ensures { self.new ≡ with_address self.old (came_up self.old.address self.old.role) }
     {
-        let Some(role) = self.role else {
-            return;
-        };
-        let Role::Dialer(_) = role else {
-            return;
-        };
-        if let Address::Discovered(info, _) = self.address {
+        if let Some(role) = self.role
+            && let Role::Dialer(_) = role
+            && let Address::Discovered(info, _) = self.address
+        {
             self.address = Address::Discovered(info, 0);
         }
     }
@@ -218,20 +204,14 @@ impl<K: Key> Record<K> {
     pub fn is_inert(&self) -> bool
         ensures { result ≡ is_inert self.now.status }
     {
-        match self.status {
-            Status::Inert => true,
-            Status::Reserved | Status::Active => false,
-        }
+        self.status == Status::Inert
     }
 
     // Whether the peer can be blocked: all but ourselves can.
     pub fn is_blockable(&self) -> bool
         ensures { result ≡ blockable self.now }
     {
-        match self.address {
-            Address::Myself(_) => false,
-            Address::Unknown | Address::Bootstrapper(_) | Address::Discovered(_, _) => true,
-        }
+        !matches!(self.address, Address::Myself(_))
     }
 
     // Whether a reservation or connection is to be closed, since the peer is not eligible.
@@ -272,7 +252,7 @@ impl<K: Key> Record<K> {
         if !ingress.is_valid(allow_private_ips, allow_dns) {
             return DialStatus::Unavailable;
         }
-        if at.is_earlier(&self.next_dial_at) {
+        if at < self.next_dial_at {
             DialStatus::After(self.next_dial_at)
         } else {
             DialStatus::Now
@@ -292,9 +272,8 @@ impl<K: Key> Record<K> {
     {
         match self.address {
             Address::Unknown => None,
-            Address::Myself(info) => Some(info.ingress),
             Address::Bootstrapper(ingress) => Some(ingress),
-            Address::Discovered(info, _) => Some(info.ingress),
+            Address::Myself(info) | Address::Discovered(info, _) => Some(info.ingress),
         }
     }
 
@@ -314,11 +293,10 @@ impl<K: Key> Record<K> {
     pub fn want(&self, limit: u64) -> bool
         ensures { result ≡ wanted limit self.now }
     {
-        match (self.address, self.status) {
-            (Address::Myself(_), _) => false,
-            (Address::Unknown, _) | (Address::Bootstrapper(_), _) => true,
-            (Address::Discovered(_, _), Status::Active) => false,
-            (Address::Discovered(_, failures), _) => failures >= limit,
+        match self.address {
+            Address::Myself(_) => false,
+            Address::Unknown | Address::Bootstrapper(_) => true,
+            Address::Discovered(_, failures) => failures >= limit && self.status != Status::Active,
         }
     }
 

@@ -4,7 +4,7 @@ ghost use Rattle.record.specs.Cases.{is_inert};
 ghost use Rattle.record.specs.Records.{is_myself, reserved_at};
 ghost use Rattle.record.specs.declared.role.Role.TheVariants.{Dialer};
 ghost use Rattle.model.specs.declared.fault.Fault.TheVariants.{TooEarly};
-ghost use Rattle.model.specs.Peers.{refuse, write, is_blocked, is_unavailable, dial_turn, listen_turn, connect_turn, release_turn, kept};
+ghost use Rattle.model.specs.Peers.{refuse, write, is_blocked, dial_turn, listen_turn, connect_turn, release_turn, kept};
 ghost use Rattle.turns.specs.Turned.{written_or, turn_of, taken, Available};
 
 use crate::turn::Turn;
@@ -17,20 +17,7 @@ use types::{Ingress, Moment, Span};
 pub fn is_blocked(at: Moment, expiry: Option<Moment>) -> bool
     ensures { result ≡ is_blocked at expiry }
 {
-    match expiry {
-        Some(expiry) => at.is_earlier(&expiry),
-        None => false,
-    }
-}
-
-// Whether a dial status is that of a peer that cannot be dialled.
-fn is_unavailable(status: DialStatus) -> bool
-    ensures { result ≡ is_unavailable status }
-{
-    match status {
-        DialStatus::Unavailable => true,
-        DialStatus::Now | DialStatus::After(_) => false,
-    }
+    expiry.is_some_and(|expiry| at < expiry)
 }
 
 // The ingress at which a peer can be dialled, or none where it is not available. One that is
@@ -38,10 +25,10 @@ fn is_unavailable(status: DialStatus) -> bool
 fn dial_ingress<K: Key>(config: &Config, at: Moment, found: &Record<K>) -> Option<Ingress>
     ensures { Available config.now at found.now result }
 {
-    if is_unavailable(found.dialable(at, config.allow_private_ips, config.allow_dns)) {
-        return None;
+    match found.dialable(at, config.allow_private_ips, config.allow_dns) {
+        DialStatus::Now | DialStatus::After(_) => found.ingress(),
+        DialStatus::Unavailable => None,
     }
-    found.ingress()
 }
 
 // What dialing makes of the record of a peer, given the expiry of its block. Asked in this order: is
@@ -56,12 +43,8 @@ pub fn dialled<K: Key>(
     ensures turn { written_or result ≡ dial_turn config.now at draw expiry found }
     ensures of_a_record { is_ok result ≡ true → is_some found ≡ true }
 {
-    let Some(record) = found else {
-        return Err(Fault::NoRecord);
-    };
-    let Some(ingress) = dial_ingress(config, at, &record) else {
-        return Err(Fault::NotDialable);
-    };
+    let record = found.ok_or(Fault::NoRecord)?;
+    let ingress = dial_ingress(config, at, &record).ok_or(Fault::NotDialable)?;
     if is_blocked(at, expiry) {
         return Err(Fault::Blocked);
     }
@@ -100,9 +83,7 @@ pub fn listened<K: Key>(
     if is_blocked(at, expiry) {
         return Err(Fault::Blocked);
     }
-    let Some(mut record) = found else {
-        return Err(Fault::NoRecord);
-    };
+    let mut record = found.ok_or(Fault::NoRecord)?;
     if !record.eligible() {
         return Err(Fault::NotEligible);
     }
@@ -118,9 +99,7 @@ pub fn connected<K: Key>(found: Option<Record<K>>) -> Result<Record<K>, Fault>
     ensures turn { written_or result ≡ connect_turn found }
     ensures of_a_record { is_ok result ≡ true → is_some found ≡ true }
 {
-    let Some(mut record) = found else {
-        return Err(Fault::NoRecord);
-    };
+    let mut record = found.ok_or(Fault::NoRecord)?;
     record.connect()?;
     Ok(record)
 }
@@ -130,9 +109,7 @@ pub fn released<K: Key>(found: Option<Record<K>>) -> Result<Turn<K>, Fault>
     ensures turn { turn_of result ≡ release_turn found }
     ensures of_a_record { is_ok result ≡ true → is_some found ≡ true }
 {
-    let Some(mut record) = found else {
-        return Err(Fault::NoRecord);
-    };
+    let mut record = found.ok_or(Fault::NoRecord)?;
     record.release()?;
     Ok(settled(record))
 }
