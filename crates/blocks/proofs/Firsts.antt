@@ -60,12 +60,11 @@ module _ {K : Type 0} (order : K → K → Ordering) (lawful : Lawful order) whe
       absent_behind : Absent (drop (p + 1) ps) k
       absent_behind q e = let s = distinct (p + 1 + q) p k (sym (get_or-drop (p + 1) ps q None) ∙ e) here in omega arith
 
-      pub first_more : (v : Moment) (found : Option Moment) → lookup order k (listing order ps vs) ≡ Some v → (next : Moment) → next ≡ earliest found v → first_expiry (listing order (drop (p + 1) ps) (drop (p + 1) vs)) (Some next) ≡ first_expiry (listing order (drop p ps) (drop p vs)) found
-      first_more v found l next e =
+      pub first_more : (v : Moment) (found : Option Moment) → lookup order k (listing order ps vs) ≡ Some v → first_expiry (listing order (drop (p + 1) ps) (drop (p + 1) vs)) (Some (earliest found v)) ≡ first_expiry (listing order (drop p ps) (drop p vs)) found
+      first_more v found l =
           let value : get_or vs p v ≡ v = same_some (sym (lookup-listing order lawful ps vs p k v long distinct here) ∙ l) in
           let rest = listing order (drop (p + 1) ps) (drop (p + 1) vs) in
-          ap (λ x. first_expiry rest (Some x)) e
-          ∙ sym (first_put k v rest found (lookup_absent order lawful (drop (p + 1) ps) (drop (p + 1) vs) k absent_behind))
+          sym (first_put k v rest found (lookup_absent order lawful (drop (p + 1) ps) (drop (p + 1) vs) k absent_behind))
           ∙ sym
           (ap (λ es. first_expiry es found)
           (left_from v (within ps p k here)

@@ -1,5 +1,5 @@
 -- When a key finds a place: it has one, or there are fewer entries than places.
-use Rattle.std.proofs.Common.{◌≡◌, ℕ, zero, suc, ◌<◌, ◌≤◌, true, false, ◌||◌, ltb, ◌⊎◌, List, [], ◌∷◌, length, is_some, is_ok, Some, None, Ok, Err, vec_items, Option, Result, Ordering, sym, refl, ap, inl, inr, arith}
+use Rattle.std.proofs.Common.{◌≡◌, ℕ, zero, suc, ◌<◌, ◌≤◌, true, false, ◌||◌, ltb, ◌⊎◌, List, [], ◌∷◌, length, is_some, is_ok, Some, None, Ok, Err, Option, Result, Ordering, sym, refl, ap, inl, inr, arith}
 use Rattle.std.proofs.lemmas.Bool.{lt-ltb, le-ltb, or_left, or_right, or_from}
 use Rattle.keys.specs.Order.{Lawful}
 use Rattle.keys.specs.declared.ordered_key.OrderedKey as ordered
@@ -8,7 +8,8 @@ use Rattle.rolls.specs.declared.fault.RollFault.{RollFault}
 use Rattle.rolls.specs.declared.roll.Roll as roll
 use Rattle.rolls.proofs.Tables.{occupied_lt}
 use Rattle.tables.specs.Listings.{lookup, listing}
-use Rattle.tables.specs.Tabled.{places_of, entries, Sound, EnterAnswer}
+use Rattle.tables.specs.Stores.{Whole}
+use Rattle.tables.specs.Tabled.{places_of, entries, EnterAnswer}
 use Rattle.tables.specs.declared.table.Table.{Table}
 use Rattle.tables.proofs.Listed.{some_value, lookup_absent, lookup-listing, length-listing}
 
@@ -33,8 +34,8 @@ module _ {K V : Type 0} (order : K → K → Ordering) (lawful : Lawful order) (
       or_from _ _ (ap is_some (lookup_absent order lawful ps vs k absent)) (le-ltb _ _ as_many)
 
 -- entering a key goes well exactly if it fits
-pub enter_fits : {K V R : Type 0} (m : roll.Ghosts R K) (o : ordered.Ghosts K) (lawful : Lawful o.order) (before after : Table K V R) (k : K) (v : V) (r : Result ℕ RollFault) → Sound m before → Distinct (places_of m before) → EnterAnswer m o before after k v r → is_ok r ≡ (is_some (lookup o.order k (entries m o before)) || ltb (length (entries m o before)) (length (places_of m before)))
-enter_fits m o lawful before after k v (Ok p) sound distinct e =
-    sym (has-place o.order lawful (places_of m before) (vec_items before.values) k sound.long distinct p e.within e.free)
-enter_fits m o lawful before after k v (Err f) sound distinct e =
-    sym (no_place o.order lawful (places_of m before) (vec_items before.values) k sound.long distinct e.absent e.none_empty)
+pub enter_fits : {K V R : Type 0} (m : roll.Ghosts R K) (o : ordered.Ghosts K) (lawful : Lawful o.order) (before after : Table K V R) (k : K) (v : V) (r : Result ℕ RollFault) → Whole (places_of m before) before.values → EnterAnswer m o before after k v r → is_ok r ≡ (is_some (lookup o.order k (entries m o before)) || ltb (length (entries m o before)) (length (places_of m before)))
+enter_fits m o lawful before after k v (Ok p) whole e =
+    sym (has-place o.order lawful (places_of m before) before.values k whole.long whole.proper.distinct p e.within e.free)
+enter_fits m o lawful before after k v (Err f) whole e =
+    sym (no_place o.order lawful (places_of m before) before.values k whole.long whole.proper.distinct e.absent e.none_empty)

@@ -24,10 +24,6 @@ module _ {K B : Type 0} (m : roll.Ghosts B K) where
   abbrev pub OnlyEmptied : List (Option K) → List (Option K) → Type 0
   OnlyEmptied before after = (length after ≡ length before) × ((p : ℕ) (k : K) → at after p ≡ Some k → at before p ≡ Some k)
 
-  -- sound if the table is
-  abbrev pub Sound : Blocks K B → Type 0
-  Sound b = table.Sound m b.expiries
-
   module _ (o : ordered.Ghosts K) where
     -- the entries: keys with the expiries of their blocks
     abbrev pub expiries_of : Blocks K B → List (K × Moment)
@@ -39,13 +35,12 @@ module _ {K B : Type 0} (m : roll.Ghosts B K) where
     -- what writing a block answers, and what it leaves; which empty place a new key takes is open
     abbrev pub BlockAnswer : Blocks K B → Blocks K B → K → Moment → Result (Unit {0}) BlocksFull → Type 0
     BlockAnswer before after key expiry (Ok u) =
-        Sound after × ((p : ℕ) × table.Entered m o before.expiries after.expiries key expiry p)
+        (p : ℕ) × table.Entered m o before.expiries after.expiries key expiry p
     BlockAnswer before after key expiry (Err full) =
-        Sound after × table.NoRoom m o before.expiries after.expiries key Full
+        table.NoRoom m o before.expiries after.expiries key Full
 
     -- the blocks that have expired at a moment are gone; the answer is whether there were any
     pub record Unblocked (before after : Blocks K B) (moment : Moment) (any : Bool) : Type 0 where
-      pub sound : Sound after
       pub now_expiries : expiries_of after ≡ unexpired moment (expiries_of before)
       pub is : any ≡ any_expired moment (expiries_of before)
       pub emptied : OnlyEmptied (places_of before) (places_of after)

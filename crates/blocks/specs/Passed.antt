@@ -1,5 +1,5 @@
--- Walks over the blocks: what holds when the places below one, or the ranks below one, have been passed.
-use Rattle.std.specs.Prelude.{◌≡◌, ℕ, ◌+◌, ◌<◌, ◌≤◌, Bool, false, not, ◌||◌, List, ◌++◌, length, drop, Some, None, vec_items, Option}
+-- Walks over the blocks: what holds when the places below one have been passed.
+use Rattle.std.specs.Prelude.{◌≡◌, ℕ, ◌+◌, ◌<◌, Bool, false, not, ◌||◌, drop, Some, None, Option}
 use Rattle.keys.specs.declared.ordered_key.OrderedKey as ordered
 use Rattle.rolls.specs.declared.roll.Roll as roll
 use Rattle.rolls.specs.Places.{at}
@@ -7,8 +7,8 @@ use Rattle.types.specs.Times.{earlier}
 use Rattle.types.specs.declared.moment.Moment.{Moment}
 use Rattle.tables.specs.Listings.{lookup, listing}
 use Rattle.model.specs.Calls.{unexpired, any_expired}
-use Rattle.model.specs.Questions.{blocked_keys, first_expiry}
-use Rattle.blocks.specs.Blocked.{places_of, OnlyEmptied, Sound, expiries_of}
+use Rattle.model.specs.Questions.{first_expiry}
+use Rattle.blocks.specs.Blocked.{places_of, OnlyEmptied, expiries_of}
 use Rattle.blocks.specs.declared.blocks.Blocks.{Blocks}
 
 -- whether there is an expiry that is at or before a moment
@@ -25,7 +25,6 @@ module _ {K B : Type 0} (m : roll.Ghosts B K) (o : ordered.Ghosts K) where
   -- At the places below one no entry has expired any more. What has not expired is as it was, and what has is gone or stands
   -- further on.
   pub record LiftedBelow (before after : Blocks K B) (moment : Moment) (place : ℕ) (any : Bool) : Type 0 where
-    pub sound : Sound m after
     pub same_unexpired : unexpired moment (expiries_of m o after) ≡ unexpired moment (expiries_of m o before)
     pub same_expired : (any || any_expired moment (expiries_of m o after)) ≡ any_expired moment (expiries_of m o before)
     pub none_below : (p : ℕ) (k : K) → p < place → at (places_of m after) p ≡ Some k → has_expired moment (lookup o.order k (expiries_of m o after)) ≡ false
@@ -39,9 +38,4 @@ module _ {K B : Type 0} (m : roll.Ghosts B K) (o : ordered.Ghosts K) where
   -- the earliest of what was found and the expiries from a place on
   abbrev pub first_from : Blocks K B → ℕ → Option Moment → Option Moment
   first_from b place found =
-      first_expiry (listing o.order (drop place (places_of m b)) (drop place (vec_items b.expiries.values))) found
-
-  -- the keys found so far and the blocked ones from a rank on are all that are blocked; each rank gave one key at most
-  pub record FoundBelow (b : Blocks K B) (moment : Moment) (rank : ℕ) (found : List K) : Type 0 where
-    pub few : length found ≤ rank
-    pub all : found ++ blocked_keys moment (drop rank (expiries_of m o b)) ≡ blocked_keys moment (expiries_of m o b)
+      first_expiry (listing o.order (drop place (places_of m b)) (drop place b.expiries.values)) found

@@ -1,5 +1,5 @@
 ghost use Rattle.std.specs.Prelude.{◌≡◌, true, ◌||◌, [], length, is_some, is_ok, IfOk, MatchResult, nat_lt};
-ghost use Rattle.blocks.specs.Blocked.{roll_of, places_of, Sound, expiries_of, BlockAnswer};
+ghost use Rattle.blocks.specs.Blocked.{roll_of, places_of, expiries_of, BlockAnswer};
 ghost use Rattle.model.specs.Peers.{is_blocked};
 ghost use Rattle.tables.specs.Listings.{lookup};
 ghost use Rattle.tables.specs.Tabled.{vacant, EnterAnswer};
@@ -27,21 +27,16 @@ impl<K: OrderedKey, B: Roll<K>> Blocks<K, B> {
     pub fn new(heap: Global, roll: B) -> Result<Self, B>
         ensures returned { MatchResult result (λ b. roll_of b ≡ roll) (λ back. back ≡ roll) }
         ensures same_places { IfOk result (λ b. places_of B.Roll b ≡ B.Roll.places roll) }
-        ensures sound { IfOk result (λ b. B.Roll.sound roll → Sound B.Roll b) }
         ensures no_entries { IfOk result (λ b. vacant (B.Roll.places roll) ≡ true → expiries_of B.Roll K.OrderedKey.own b ≡ []) }
     {
-        match Table::new(heap, roll, Moment { millis: 0 }) {
-            Ok(expiries) => Ok(Blocks { expiries }),
-            Err(roll) => Err(roll),
-        }
+        Table::new(heap, roll, Moment { millis: 0 }).map(|expiries| Blocks { expiries })
     }
 
     // The roll of blocks that are taken apart.
     pub fn into_roll(self) -> B
         ensures { result ≡ roll_of self }
     {
-        let Blocks { expiries } = self;
-        expiries.into_roll()
+        self.expiries.into_roll()
     }
 
     // How many places there are.
@@ -53,22 +48,22 @@ impl<K: OrderedKey, B: Roll<K>> Blocks<K, B> {
 
     // When the block of a peer expires or has expired, or none where it has no entry.
     pub fn expiry(&self, key: &K) -> Option<Moment>
-        ensures { Sound B.Roll self.now → result ≡ lookup K.OrderedKey.order key.now (expiries_of B.Roll K.OrderedKey.own self.now) }
+        ensures { result ≡ lookup K.OrderedKey.order key.now (expiries_of B.Roll K.OrderedKey.own self.now) }
     {
         self.expiries.get(key)
     }
 
     // Whether a peer is blocked at a moment.
     pub fn is_blocked(&self, at: Moment, key: &K) -> bool
-        ensures { Sound B.Roll self.now → result ≡ is_blocked at (lookup K.OrderedKey.order key.now (expiries_of B.Roll K.OrderedKey.own self.now)) }
+        ensures { result ≡ is_blocked at (lookup K.OrderedKey.order key.now (expiries_of B.Roll K.OrderedKey.own self.now)) }
     {
         is_blocked(at, self.expiry(key))
     }
 
     // Writes the expiry of a peer's block, over an entry that it has or in an empty place.
     pub fn block(&mut self, key: K, expiry: Moment) -> Result<(), BlocksFull>
-        ensures answered { Sound B.Roll self.old → BlockAnswer B.Roll K.OrderedKey.own self.old self.new key expiry result }
-        ensures fits { Sound B.Roll self.old → is_ok result ≡ (is_some (lookup K.OrderedKey.order key (expiries_of B.Roll K.OrderedKey.own self.old)) || nat_lt (length (expiries_of B.Roll K.OrderedKey.own self.old)) (length (places_of B.Roll self.old))) }
+        ensures answered { BlockAnswer B.Roll K.OrderedKey.own self.old self.new key expiry result }
+        ensures fits { is_ok result ≡ (is_some (lookup K.OrderedKey.order key (expiries_of B.Roll K.OrderedKey.own self.old)) || nat_lt (length (expiries_of B.Roll K.OrderedKey.own self.old)) (length (places_of B.Roll self.old))) }
     {
         self.enter(key, expiry)?;
         Ok(())
@@ -76,9 +71,8 @@ impl<K: OrderedKey, B: Roll<K>> Blocks<K, B> {
 
     // Writes an expiry at the place of a key, or at an empty one, and answers the place.
     fn enter(&mut self, key: K, expiry: Moment) -> Result<usize, RollFault>
-        ensures stays_sound { Sound B.Roll self.old → Sound B.Roll self.new }
-        ensures entered { Sound B.Roll self.old → EnterAnswer B.Roll K.OrderedKey.own self.old.expiries self.new.expiries key expiry result }
-        ensures fits { Sound B.Roll self.old → is_ok result ≡ (is_some (lookup K.OrderedKey.order key (expiries_of B.Roll K.OrderedKey.own self.old)) || nat_lt (length (expiries_of B.Roll K.OrderedKey.own self.old)) (length (places_of B.Roll self.old))) }
+        ensures entered { EnterAnswer B.Roll K.OrderedKey.own self.old.expiries self.new.expiries key expiry result }
+        ensures fits { is_ok result ≡ (is_some (lookup K.OrderedKey.order key (expiries_of B.Roll K.OrderedKey.own self.old)) || nat_lt (length (expiries_of B.Roll K.OrderedKey.own self.old)) (length (places_of B.Roll self.old))) }
     {
         self.expiries.enter(key, expiry)
     }

@@ -5,7 +5,7 @@ use model::Fault;
 use rolls::RollFault;
 
 // There is no place for another block.
-#[derive(Clone, Copy)]
+#[derive(Clone, Copy, Debug, PartialEq, Eq)]
 pub struct BlocksFull;
 
 // A roll that answers full has no place for the block.

@@ -1,17 +1,27 @@
 -- A new set: its primaries, and the secondaries that are no primaries.
-use Rattle.std.proofs.Common.{◌≡◌, ℕ, ◌+◌, ◌<◌, ◌≤◌, true, false, cond, List, [], ◌∷◌, ◌++◌, length, get_or, drop, Some, Ordering, sym, ap, ◌∙◌, arith}
+use Rattle.std.proofs.Common.{◌≡◌, ℕ, ◌+◌, ◌<◌, ◌≤◌, true, false, cond, List, [], ◌∷◌, ◌++◌, length, get_or, drop, Some, Ok, Err, Result, ◌&&◌, leb, Ordering, sym, ap, ◌∙◌, arith}
 use Rattle.std.proofs.lemmas.List.{append_assoc, append-nil, length-append, at_drop_more, at_drop_all}
 use Rattle.std.proofs.lemmas.Bool.{cond-true, cond-false, and_from, and_right, le-leb, lt-leb}
 use Rattle.key_list.specs.Keys.{has, without}
+use Rattle.keys.specs.Order.{ascending}
+use Rattle.std.specs.Result.{result_ok}
 use Rattle.bit_set.specs.Members.{Fresh}
+use Rattle.bit_set.specs.Members as bit-sets
+use Rattle.bit_set.specs.declared.fault.BitSetFault.{BitSetFault}
+use Rattle.bit_set.specs.declared.fault.BitSetFault.TheVariants.{TooMany, NotAscending}
 use Rattle.bit_set.specs.declared.bit_set.BitSet.{BitSet}
 use Rattle.peer_sets.specs.Held.{can_be_primary, Unmarked, can_make}
 use Rattle.peer_sets.proofs.Marks.{primaries-members}
 
 module _ {K : Type 0} (order : K → K → Ordering) where
-  pub unmarked : (keys : List K) (s : BitSet K) → Fresh order keys s → Unmarked order keys (Some s)
+  unmarked : (keys : List K) (s : BitSet K) → Fresh order keys s → Unmarked order keys (Some s)
   unmarked keys s f =
       (and_from _ _ f.given_ascend (le-leb (length keys) 64 f.few), primaries-members s ∙ f.same_keys, f.now_members)
+
+  pub unmarked_from : (keys : List K) (r : Result (BitSet K) BitSetFault) → bit-sets.Made order keys r → Unmarked order keys (result_ok r)
+  unmarked_from keys (Ok s) made = unmarked keys s made
+  unmarked_from keys (Err TooMany) made = and_right (ascending order keys) _ (lt-leb (length keys) 64 (omega arith))
+  unmarked_from keys (Err NotAscending) made = ap (λ b. b && leb (length keys) 64) made.1
 
   -- too many secondaries
   pub cannot_make : (primary secondary others : List K) → others ≡ primary → 64 < length (without order secondary others) → can_make order primary secondary ≡ false

@@ -1,10 +1,11 @@
 -- The primaries of a set, by the keys and the bits that hold them.
-use Rattle.std.proofs.Common.{◌≡◌, ℕ, zero, suc, ◌+◌, ◌-◌, ◌<◌, ◌≤◌, Bool, false, cond, ◌||◌, List, [], ◌∷◌, map, length, get_or, replicate, is_some, Some, None, Option, Ordering, Less, Equal, Greater, sym, refl, ap, ◌∙◌, arith}
+use Rattle.std.proofs.Common.{◌≡◌, ℕ, zero, suc, ◌+◌, ◌-◌, ◌<◌, ◌≤◌, Bool, true, false, cond, ◌||◌, List, [], ◌∷◌, map, length, get_or, replicate, is_some, Some, None, Option, Ordering, sym, refl, ap, ◌∙◌, arith}
 use Rattle.std.specs.List.{slice_get}
 use Rattle.std.proofs.lemmas.List.{length-replicate}
 use Rattle.types.specs.declared.bit_vec.BitVec.{BitVec}
 use Rattle.key_list.specs.Keys.{is_equal, has}
-use Rattle.bit_set.specs.Places.{keys_of, key_at, if_equal, place_of, paired}
+use Rattle.key_list.proofs.Rows.{few-keys}
+use Rattle.bit_set.specs.Places.{key_at, place_of, paired}
 use Rattle.bit_set.specs.Members.{with_second, keys_in, bits_in, members, Updated}
 use Rattle.bit_set.specs.Members as bit-sets
 use Rattle.bit_set.specs.declared.bit_set.BitSet.{BitSet}
@@ -24,11 +25,6 @@ module _ {X : Type 0} where
   seconds-paired (x ∷ xs) [] e = absurd (omega arith)
   seconds-paired (x ∷ xs) (y ∷ ys) e = ap (λ zs. y ∷ zs) (seconds-paired xs ys (omega arith))
 
-  key_at_nth : (xs : List X) (i : ℕ) → key_at xs i ≡ slice_get xs i
-  key_at_nth [] i = refl
-  key_at_nth (x ∷ xs) zero = refl
-  key_at_nth (x ∷ xs) (suc i) = key_at_nth xs i
-
 module _ {K : Type 0} where
   -- the primaries of a bit set are its keys
   pub length-primaries : (ms : List (K × Bool)) → length (primaries ms) ≡ length ms
@@ -38,16 +34,11 @@ module _ {K : Type 0} where
   pub primaries-members : (s : BitSet K) → primaries (members s) ≡ keys_in s
   primaries-members s = primaries-paired (keys_in s) (bits_in s) s.enough
 
-  few-keys : (places : List (Option K)) → length (keys_of places) ≤ length places
-  few-keys [] = omega arith
-  few-keys (None ∷ places) = omega arith
-  few-keys (Some k ∷ places) = omega (arith, few-keys places)
-
   pub few-members : (s : BitSet K) → length (members s) ≤ 64
-  few-members s = omega (arith, few-keys s.keys, s.every, s.whole)
+  few-members s = omega (arith, few-keys s.keys, s.every)
 
   pub primary-at : (s : BitSet K) (i : ℕ) (r : Option K) → r ≡ key_at (keys_in s) i → r ≡ slice_get (primaries (members s)) i
-  primary-at s i r e = e ∙ key_at_nth (keys_in s) i ∙ ap (λ ks. slice_get ks i) (sym (primaries-members s))
+  primary-at s i r e = e ∙ ap (λ ks. slice_get ks i) (sym (primaries-members s))
 
   pub carried : (s : BitSet K) (index : ℕ) (v : BitVec) → bit-sets.Carried s index v → Carried index (members s) v
   carried s index v c =
@@ -59,14 +50,13 @@ module _ {K : Type 0} where
       }
 
 module _ {K : Type 0} (order : K → K → Ordering) (key : K) where
-  has_step : (o : Ordering) (i : ℕ) (rest : Option ℕ) (t : Bool) → is_some rest ≡ t → is_some (if_equal o (Some i) rest) ≡ (is_equal o || t)
-  has_step Less i rest t e = e
-  has_step Equal i rest t e = refl
-  has_step Greater i rest t e = e
+  has_step : (same : Bool) (i : ℕ) (rest : Option ℕ) (t : Bool) → is_some rest ≡ t → is_some (cond same (Some i) rest) ≡ (same || t)
+  has_step true i rest t e = refl
+  has_step false i rest t e = e
 
   place-has : (ks : List K) (i : ℕ) → is_some (place_of order key i ks) ≡ has order key ks
   place-has [] i = refl
-  place-has (k ∷ ks) i = has_step (order k key) i (place_of order key (i + 1) ks) (has order key ks) (place-has ks (i + 1))
+  place-has (k ∷ ks) i = has_step (is_equal (order k key)) i (place_of order key (i + 1) ks) (has order key ks) (place-has ks (i + 1))
 
   pub primary_there : (s : BitSet K) (r : Option ℕ) → r ≡ place_of order key 0 (keys_in s) → is_some r ≡ has order key (primaries (members s))
   primary_there s r e = ap is_some e ∙ place-has (keys_in s) 0 ∙ ap (has order key) (sym (primaries-members s))
@@ -80,14 +70,13 @@ module _ {K : Type 0} (order : K → K → Ordering) (key : K) where
   low_less i None h = tt
   low_less i (Some j) h = omega arith
 
-  low_step : (o : Ordering) (i : ℕ) (rest : Option ℕ) → Low (i + 1) rest → Low i (if_equal o (Some i) rest)
-  low_step Less i rest h = low_less i rest h
-  low_step Equal i rest h = omega arith
-  low_step Greater i rest h = low_less i rest h
+  low_step : (same : Bool) (i : ℕ) (rest : Option ℕ) → Low (i + 1) rest → Low i (cond same (Some i) rest)
+  low_step true i rest h = omega arith
+  low_step false i rest h = low_less i rest h
 
   place_low : (ks : List K) (i : ℕ) → Low i (place_of order key i ks)
   place_low [] i = tt
-  place_low (k ∷ ks) i = low_step (order k key) i (place_of order key (i + 1) ks) (place_low ks (i + 1))
+  place_low (k ∷ ks) i = low_step (is_equal (order k key)) i (place_of order key (i + 1) ks) (place_low ks (i + 1))
 
   -- the pairs with the bit of one of them written, where the first has the index i
   abbrev written_from : ℕ → List (K × Bool) → Option ℕ → Bool → List (K × Bool)
@@ -99,10 +88,9 @@ module _ {K : Type 0} (order : K → K → Ordering) (key : K) where
   written_behind i m ps (Some j) known h =
       let n : j - i ≡ suc (j - (i + 1)) = omega arith in ap (λ d. with_second (m ∷ ps) d known) n
 
-  written_step : (o : Ordering) (i : ℕ) (m : K × Bool) (ps : List (K × Bool)) (rest : Option ℕ) (known : Bool) → Low (i + 1) rest → written_from i (m ∷ ps) (if_equal o (Some i) rest) known ≡ cond (is_equal o) ((m.0, known) ∷ ps) (m ∷ written_from (i + 1) ps rest known)
-  written_step Less i m ps rest known h = written_behind i m ps rest known h
-  written_step Equal i m ps rest known h = let n : i - i ≡ 0 = omega arith in ap (λ d. with_second (m ∷ ps) d known) n
-  written_step Greater i m ps rest known h = written_behind i m ps rest known h
+  written_step : (same : Bool) (i : ℕ) (m : K × Bool) (ps : List (K × Bool)) (rest : Option ℕ) (known : Bool) → Low (i + 1) rest → written_from i (m ∷ ps) (cond same (Some i) rest) known ≡ cond same ((m.0, known) ∷ ps) (m ∷ written_from (i + 1) ps rest known)
+  written_step true i m ps rest known h = let n : i - i ≡ 0 = omega arith in ap (λ d. with_second (m ∷ ps) d known) n
+  written_step false i m ps rest known h = written_behind i m ps rest known h
 
   written-marked : (ks : List K) (bits : List Bool) (i : ℕ) (known : Bool) → length bits ≡ length ks → written_from i (paired ks bits) (place_of order key i ks) known ≡ marked_first order key known (paired ks bits)
   written-marked [] bits i known e = none (place_of order key i [])
@@ -113,7 +101,7 @@ module _ {K : Type 0} (order : K → K → Ordering) (key : K) where
   written-marked (k ∷ ks) [] i known e = absurd (omega arith)
   written-marked (k ∷ ks) (b ∷ bits) i known e =
       let rest = place_of order key (i + 1) ks in
-      written_step (order k key) i (k, b) (paired ks bits) rest known (place_low ks (i + 1))
+      written_step (is_equal (order k key)) i (k, b) (paired ks bits) rest known (place_low ks (i + 1))
       ∙ ap (λ ps. cond (is_equal (order k key)) ((k, known) ∷ paired ks bits) ((k, b) ∷ ps)) (written-marked ks bits (i + 1) known (omega arith))
 
   updated-members : (before after : BitSet K) (r : Option ℕ) (known done : Bool) → Updated before after r known done → members after ≡ written_from 0 (members before) r known

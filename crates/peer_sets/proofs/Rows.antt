@@ -1,11 +1,11 @@
 -- Sets in a row, oldest first: reading them, marking all, and entering one more.
-use Rattle.std.proofs.Common.{◌≡◌, ℕ, zero, suc, ◌+◌, ◌%◌, ◌<◌, ◌≤◌, Bool, true, false, ◌||◌, eqb, ltb, List, [], ◌∷◌, ◌++◌, map, length, get_or, take, drop, set, Some, None, Ordering, sym, refl, ap, ◌∙◌, arith}
-use Rattle.std.specs.Option.{option_map}
-use Rattle.std.specs.List.{remove, slice_get}
+use Rattle.std.proofs.Common.{◌≡◌, ℕ, suc, ◌+◌, ◌-◌, ◌%◌, ◌<◌, ◌≤◌, Bool, true, false, cond, ◌||◌, eqb, ltb, List, [], ◌∷◌, ◌++◌, map, length, get_or, take, drop, set, Some, None, Option, Ordering, sym, refl, ap, ◌∙◌, arith}
+use Rattle.std.specs.Option.{option_map, option_copied}
+use Rattle.std.specs.List.{find, list_any, remove, slice_get}
 use Rattle.std.proofs.lemmas.List.Edits.{map_over_more}
-use Rattle.std.proofs.lemmas.List.{length-map, length_push, get_or-map, map_push, map-set, at_drop_more, at_drop_all, length-take-le, length-drop, length-set, get_or-take, get_or-drop, take_at, take-take, take_more, drop-set-lt, drop-drop, take_more_set, drop-take, take-map, nil_from_length}
-use Rattle.std.proofs.lemmas.Option.{slice_get-get_or, slice_get_past}
+use Rattle.std.proofs.lemmas.List.{append-nil, drop_all, take_all, length-map, length_push, get_or-map, map_push, map-set}
 use Rattle.std.proofs.lemmas.Bool.{cond-true, cond-false, lt-ltb, le-ltb}
+use denote.Ref.{Bor}
 use Rattle.model.specs.Questions.{drawn_set}
 use Rattle.model.specs.Sets.{newest, set_at, is_held}
 use Rattle.model.specs.State.{PeerSet as Meant}
@@ -14,27 +14,11 @@ use Rattle.peer_sets.specs.Held.{set_of, held, marked_set, kept, leaving}
 use Rattle.peer_sets.specs.declared.peer_set.PeerSet.{PeerSet}
 use Rattle.peer_sets.specs.declared.peer_sets.PeerSets.{PeerSets}
 
+pub copied_now : {X : Type 0} (r : Option (Bor X)) → option_copied r ≡ option_map (λ y. y.now) r
+copied_now None = refl
+copied_now (Some y) = refl
+
 module _ {X Y : Type 0} (f : X → Y) (xs : List X) where
-  -- what is left of a row from a place on begins with what stands there
-  at_place : {Z : Type 0} (F : List Y → Z) (i : ℕ) (x : X) → i < length xs → x ≡ get_or xs i x → F (drop i (map f xs)) ≡ F (f x ∷ drop (i + 1) (map f xs))
-  at_place F i x h e =
-      at_drop_more F (map f xs) i (f x) (omega (arith, length-map xs f))
-      ∙ ap (λ y. F (y ∷ drop (i + 1) (map f xs))) (get_or-map f xs i x (f x) h ∙ ap f (sym e))
-
-  at_end : {Z : Type 0} (F : List Y → Z) (i : ℕ) → length xs ≤ i → F (drop i (map f xs)) ≡ F []
-  at_end F i h = at_drop_all F (map f xs) i (omega (arith, length-map xs f))
-
-  pub nth_there : (i : ℕ) (x : X) → i < length xs → x ≡ get_or xs i x → Some (f x) ≡ slice_get (map f xs) i
-  nth_there i x h e =
-      ap (λ z. Some (f z)) e ∙ ap Some (sym (get_or-map f xs i x (f x) h))
-      ∙ sym (slice_get-get_or (map f xs) i (f x) (omega (arith, length-map xs f)))
-
-  pub nth_none : (i : ℕ) → length xs ≤ i → None ≡ slice_get (map f xs) i
-  nth_none i h = sym (slice_get_past (map f xs) i (omega (arith, length-map xs f)))
-
-  pub none_there : {Z : Type 0} (F : List Y → Z) → length xs ≡ 0 → F [] ≡ F (map f xs)
-  none_there F e = sym (ap F (nil_from_length (map f xs) (length-map xs f ∙ e)))
-
   -- one more behind a row, and then the first taken out if there are too many
   module _ (x : X) (most : ℕ) (pushed : List X) (behind : pushed ≡ xs ++ x ∷ []) where
     all_of : map f pushed ≡ map f xs ++ f x ∷ []
@@ -73,108 +57,29 @@ module _ {X Y : Type 0} (f : X → Y) (xs : List X) where
         ∙ ap (λ ys. slice_get ys 0) all_of
         ∙ sym (cond-true _ _ _ (too_many h))
 
--- one more in the place behind the first n, and then the first taken out if there are too many
-module _ {X Y : Type 0} (f : X → Y) (xs : List X) (n : ℕ) (x : X) (most : ℕ) (within : n < length xs) where
-  in_place : take (n + 1) (set xs n x) ≡ take n xs ++ x ∷ []
-  in_place = take_more_set xs n x within
-
-  many : length (take n xs) ≡ n
-  many = length-take-le n xs (omega arith)
-
-  pub one_more : n + 1 ≤ most → map f (take (n + 1) (set xs n x)) ≡ kept most (map f (take n xs) ++ f x ∷ [])
-  one_more h = all_stay f (take n xs) x most (take (n + 1) (set xs n x)) in_place (omega (arith, many))
-
-  pub none_out : n + 1 ≤ most → None ≡ leaving most (map f (take n xs) ++ f x ∷ [])
-  none_out h = none_leaves f (take n xs) x most (take (n + 1) (set xs n x)) in_place (omega (arith, many))
-
-  moved : (ys : List X) → take n ys ≡ take n (drop 1 (set xs n x)) → take n ys ≡ remove (take (n + 1) (set xs n x)) 0
-  moved ys e =
-      let k : n + 1 ≡ 1 + n = omega arith in e ∙ sym (drop-take 1 n (set xs n x)) ∙ ap (λ m. drop 1 (take m (set xs n x))) (sym k)
-
-  pub one_out : (ys : List X) → take n ys ≡ take n (drop 1 (set xs n x)) → most ≤ n → map f (take n ys) ≡ kept most (map f (take n xs) ++ f x ∷ [])
-  one_out ys e h = rest_stays f (take n xs) x most (take (n + 1) (set xs n x)) in_place (take n ys) (moved ys e) (omega (arith, many))
-
-  pub first_out : (r : X) → r ≡ get_or (set xs n x) 0 r → most ≤ n → Some (f r) ≡ leaving most (map f (take n xs) ++ f x ∷ [])
-  first_out r e h =
-      first_leaves f (take n xs) x most (take (n + 1) (set xs n x)) in_place r
-      (e ∙ sym (get_or-take (n + 1) (set xs n x) 0 r (omega arith)))
-      (omega (arith, many))
-
--- A row whose first i places have what stood one place further, and the others what stood there.
-pub record Moved {X : Type 0} (before : List X) (i : ℕ) (after : List X) : Type 0 where
-  pub whole : length after ≡ length before
-  pub down : take i after ≡ take i (drop 1 before)
-  pub still : drop i after ≡ drop i before
-
-pub moved_none : {X : Type 0} (xs : List X) → Moved xs 0 xs
-moved_none xs = record { whole = refl; down = refl; still = refl }
-
-module _ {X : Type 0} (before after : List X) (i : ℕ) where
-  module _ (so : Moved before i after) (within : i + 1 < length before) where
-    next_same : (d : X) → get_or after (i + 1) d ≡ get_or (drop 1 before) i d
-    next_same d =
-        let k : 1 + i ≡ i + 1 = omega arith in
-        sym (get_or-drop i after 1 d)
-        ∙ ap (λ xs. get_or xs 1 d) so.still
-        ∙ get_or-drop i before 1 d
-        ∙ ap (λ m. get_or before m d) (sym k)
-        ∙ sym (get_or-drop 1 before i d)
-
-    pub moved_more : (x : X) → x ≡ get_or after (i + 1) x → Moved before (i + 1) (set after i x)
-    moved_more x e =
-        let short : i < length after = omega (arith, so.whole) in
-        record {
-          whole = length-set after i x ∙ so.whole;
-          down =
-              take_more_set after i x short
-              ∙ ap (λ xs. xs ++ x ∷ []) so.down
-              ∙ ap (λ y. take i (drop 1 before) ++ y ∷ []) (e ∙ next_same x)
-              ∙ sym (take_more (drop 1 before) i x (omega (arith, length-drop 1 before)));
-          still =
-              drop-set-lt (i + 1) after i x (omega arith)
-              ∙ sym (drop-drop 1 i after)
-              ∙ ap (drop 1) so.still
-              ∙ drop-drop 1 i before;
-        }
-
-  pub moved_all : Moved before i after → (n : ℕ) → n ≤ i → take n after ≡ take n (drop 1 before)
-  moved_all so n h = sym (take-take n i after h) ∙ ap (take n) so.down ∙ take-take n i (drop 1 before) h
-
 module _ {K : Type 0} where
   -- the set with an index
 
-  module _ (index : ℕ) (xs : List (PeerSet K)) (i : ℕ) where
-    pub set_here : (x : PeerSet K) → i < length xs → x ≡ get_or xs i x → eqb x.index index ≡ true → set_at index (drop i (map set_of xs)) ≡ Some (set_of x)
-    set_here x h e t = at_place set_of xs (set_at index) i x h e ∙ cond-true _ _ _ t
+  found_or : (same : Bool) (index : ℕ) (x : PeerSet K) (xs : List (PeerSet K)) → set_at index (map set_of xs) ≡ option_map set_of (find (λ s. eqb s.index index) xs) → cond same (Some (set_of x)) (set_at index (map set_of xs)) ≡ option_map set_of (cond same (Some x) (find (λ s. eqb s.index index) xs))
+  found_or true index x xs e = refl
+  found_or false index x xs e = e
 
-    pub set_further : (x : PeerSet K) → i < length xs → x ≡ get_or xs i x → eqb x.index index ≡ false → set_at index (drop i (map set_of xs)) ≡ set_at index (drop (i + 1) (map set_of xs))
-    set_further x h e t = at_place set_of xs (set_at index) i x h e ∙ cond-false _ _ _ t
+  pub found_set : (index : ℕ) (xs : List (PeerSet K)) → set_at index (map set_of xs) ≡ option_map set_of (find (λ s. eqb s.index index) xs)
+  found_set index [] = refl
+  found_set index (x ∷ xs) = found_or (eqb x.index index) index x xs (found_set index xs)
 
-    pub set_nowhere : length xs ≤ i → set_at index (drop i (map set_of xs)) ≡ None
-    set_nowhere h = at_end set_of xs (set_at index) i h
-
-    pub held_here : (x : PeerSet K) → i < length xs → x ≡ get_or xs i x → eqb x.index index ≡ true → is_held index (drop i (map set_of xs)) ≡ true
-    held_here x h e t = at_place set_of xs (is_held index) i x h e ∙ ap (λ b. b || is_held index (drop (i + 1) (map set_of xs))) t
-
-    pub held_further : (x : PeerSet K) → i < length xs → x ≡ get_or xs i x → eqb x.index index ≡ false → is_held index (drop i (map set_of xs)) ≡ is_held index (drop (i + 1) (map set_of xs))
-    held_further x h e t = at_place set_of xs (is_held index) i x h e ∙ ap (λ b. b || is_held index (drop (i + 1) (map set_of xs))) t
-
-    pub held_nowhere : length xs ≤ i → is_held index (drop i (map set_of xs)) ≡ false
-    held_nowhere h = at_end set_of xs (is_held index) i h
+  pub any_held : (index : ℕ) (xs : List (PeerSet K)) → list_any (λ s. eqb s.index index) xs ≡ is_held index (map set_of xs)
+  any_held index [] = refl
+  any_held index (x ∷ xs) = ap (λ b. eqb x.index index || b) (any_held index xs)
 
   -- the newest is the last
 
-  newest_nth : (ms : List (Meant K)) (n : ℕ) → length ms ≡ n + 1 → newest ms ≡ option_map (λ m. m.index) (slice_get ms n)
-  newest_nth [] n e = absurd (omega arith)
-  newest_nth (m ∷ []) zero e = refl
-  newest_nth (m ∷ []) (suc n) e = absurd (omega arith)
-  newest_nth (m ∷ k ∷ ms) zero e = absurd (omega arith)
-  newest_nth (m ∷ k ∷ ms) (suc n) e = newest_nth (k ∷ ms) n (omega arith)
-
-  pub newest_last : (xs : List (PeerSet K)) (n : ℕ) (x : PeerSet K) → length xs ≡ n + 1 → x ≡ get_or xs n x → Some x.index ≡ newest (map set_of xs)
-  newest_last xs n x e r =
-      ap (option_map (λ (m : Meant K). m.index)) (nth_there set_of xs n x (omega arith) r)
-      ∙ sym (newest_nth (map set_of xs) n (length-map xs set_of ∙ e))
+  pub newest_last : (xs : List (PeerSet K)) (x : PeerSet K) → Some x ≡ slice_get xs (length xs - 1) → Some x.index ≡ newest (map set_of xs)
+  newest_last [] x e = cc
+  newest_last (y ∷ []) x e = ap (option_map (λ (s : PeerSet K). s.index)) e
+  newest_last (y ∷ z ∷ ys) x e =
+      let n : length (y ∷ z ∷ ys) - 1 ≡ suc (length (z ∷ ys) - 1) = omega arith in
+      newest_last (z ∷ ys) x (e ∙ ap (slice_get (y ∷ z ∷ ys)) n)
 
   -- a draw
 
@@ -197,17 +102,14 @@ module _ {K : Type 0} where
         ∙ map_over_more (marked_set order key known) ms (map set_of xs) i (set_of x) (omega arith) so
         (ap set_of here ∙ sym (get_or-map set_of xs i x (set_of x) h))
 
-    pub marked_through : (xs ys : List (PeerSet K)) (i n : ℕ) → n ≡ i → i ≤ length xs → map set_of ys ≡ map (marked_set order key known) (take i (map set_of xs)) ++ drop i (map set_of xs) → map set_of (take n ys) ≡ marked_first_all order key known (map set_of (take n xs))
-    marked_through xs ys i n e h so =
-        let front : List (Meant K) = map (marked_set order key known) (take i (map set_of xs)) in
-        let long : length front ≡ n = length-map (take i (map set_of xs)) (marked_set order key known) ∙ length-take-le i (map set_of xs) (omega (arith, length-map xs set_of)) ∙ sym e in
-        sym (take-map set_of n ys)
-        ∙ ap (take n) so
-        ∙ take_at front (drop i (map set_of xs)) n long
-        ∙ marked_each (take i (map set_of xs))
-        ∙ ap (marked_first_all order key known) (take-map set_of i xs ∙ ap (λ m. map set_of (take m xs)) (sym e))
+    pub marked_all : (ms : List (Meant K)) (xs : List (PeerSet K)) (i : ℕ) → length xs ≡ length ms → length xs ≤ i → map set_of xs ≡ map (marked_set order key known) (take i ms) ++ drop i ms → map set_of xs ≡ marked_first_all order key known ms
+    marked_all ms xs i long h so =
+        so
+        ∙ ap (λ t. map (marked_set order key known) t ++ drop i ms) (take_all i ms (omega arith))
+        ∙ ap (λ t. map (marked_set order key known) ms ++ t) (drop_all i ms (omega arith))
+        ∙ append-nil (map (marked_set order key known) ms)
+        ∙ marked_each ms
 
   -- at most eight sets are held
   pub few_held : (s : PeerSets K) → length (held s) ≤ 8
-  few_held s =
-      omega (arith, length-map (take s.count s.sets) set_of, length-take-le s.count s.sets (omega (arith, s.few, s.whole)), s.few)
+  few_held s = omega (arith, length-map s.sets.items set_of, s.few)

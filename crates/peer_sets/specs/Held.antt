@@ -1,5 +1,5 @@
 -- What a set, and the sets held, stand for.
-use Rattle.std.specs.Prelude.{◌≡◌, ℕ, ◌-◌, Bool, true, false, cond, ◌&&◌, List, [], ◌∷◌, map, length, take, drop, replicate, Some, None, Option, nat_le, nat_lt}
+use Rattle.std.specs.Prelude.{◌≡◌, ℕ, ◌-◌, Bool, true, false, cond, ◌&&◌, List, [], ◌∷◌, map, length, drop, replicate, Some, None, Option, nat_le, nat_lt}
 use Rattle.std.specs.declared.cmp.Ordering.{Ordering}
 use Rattle.std.specs.List.{slice_get}
 use Rattle.keys.specs.Order.{ascending}
@@ -28,7 +28,11 @@ module _ {K : Type 0} where
 
   -- what the sets held stand for, oldest first
   abbrev pub held : PeerSets K → List (Meant K)
-  held s = map set_of (take s.count s.sets)
+  held s = map set_of s.sets.items
+
+  -- a set with no members, under the index 0
+  abbrev pub IsBlank : PeerSet K → Type 0
+  IsBlank s = set_of s ≡ record { index = 0; primary = []; secondary = [] }
 
   -- the set with the bit of the primary at an index as given; past the last primary nothing changes
   abbrev pub marked_at : ℕ → Bool → Meant K → Meant K

@@ -1,4 +1,4 @@
-ghost use Rattle.std.specs.Prelude.{◌≡◌, map, length};
+ghost use Rattle.std.specs.Prelude.{◌≡◌, ◌==◌, map, length};
 ghost use Rattle.std.specs.Option.{option_map};
 ghost use Rattle.std.specs.List.{slice_get};
 ghost use Rattle.model.specs.Questions.{drawn_set};
@@ -20,54 +20,44 @@ pub(crate) fn count<K: OrderedKey>(sets: &[PeerSet<K>]) -> usize
 pub(crate) fn last_index<K: OrderedKey>(sets: &[PeerSet<K>]) -> Option<u64>
     ensures { result ≡ newest (map set_of sets.now) }
 {
-    let count = sets.len();
-    if count == 0 {
-        return None;
-    }
-    let last = sets[count - 1];
-    Some(last.index())
+    let last = sets.last()?;
+    Some(last.index)
 }
 
 // Whether some set has an index.
 pub(crate) fn any_has<K: OrderedKey>(sets: &[PeerSet<K>], index: u64) -> bool
     ensures { result ≡ one_Has index (map set_of sets.now) }
 {
-    for i in 0..sets.len() {
-        let set = sets[i];
-        if set.index() == index {
-            return true;
-        }
-    }
-    false
+    sets.iter().any(
+        |set| -> bool
+            ensures { result ≡ (set.now.index == index) }
+        { set.index == index },
+    )
 }
 
 // The first set that has an index, or none.
 pub(crate) fn find<K: OrderedKey>(sets: &[PeerSet<K>], index: u64) -> Option<PeerSet<K>>
     ensures { option_map set_of result ≡ set_at index (map set_of sets.now) }
 {
-    for i in 0..sets.len() {
-        let set = sets[i];
-        if set.index() == index {
-            return Some(set);
-        }
-    }
-    None
+    let found = sets.iter().find(
+        |set| -> bool
+            ensures { result ≡ (set.now.now.index == index) }
+        { set.index == index },
+    );
+    found.copied()
 }
 
 // The set in a place, or none past the last.
 pub(crate) fn read<K: OrderedKey>(sets: &[PeerSet<K>], i: usize) -> Option<PeerSet<K>>
     ensures { option_map set_of result ≡ slice_get (map set_of sets.now) i }
 {
-    if i < sets.len() { Some(sets[i]) } else { None }
+    sets.get(i).copied()
 }
 
 // The set of a draw, each place in turn, or none while there is none.
 pub(crate) fn draw_one<K: OrderedKey>(sets: &[PeerSet<K>], draw: u64) -> Option<PeerSet<K>>
     ensures { option_map set_of result ≡ drawn_set draw (map set_of sets.now) }
 {
-    let count = sets.len();
-    if count == 0 {
-        return None;
-    }
-    read(sets, (draw % count as u64) as usize)
+    let place = draw.checked_rem(sets.len() as u64)?;
+    read(sets, place as usize)
 }

@@ -7,7 +7,7 @@ pub mod methods;
 // secondaries.
 pub struct PeerSet<K> {
     // The number by which peers know the set.
-    index: u64,
+    pub(crate) index: u64,
     // The primaries in ascending order, with a bit for each.
     primary: BitSet<K>,
     // The secondaries, none of which is a primary.

@@ -1,6 +1,8 @@
-ghost use Rattle.std.specs.Prelude.{◌≡◌, ◌≤◌, length};
+ghost use Rattle.std.specs.Prelude.{◌≤◌};
+ghost use Rattle.arrayvec.specs.ArrayVec.{array_vec_len};
 
 use crate::peer_set::PeerSet;
+use arrayvec::ArrayVec;
 
 pub mod methods;
 
@@ -13,12 +15,8 @@ const PLACES: usize = 9;
 // The sets held, oldest first.
 #[derive(Drop)]
 pub struct PeerSets<K: Copy> {
-    // The sets, in the order in which they were entered; what stands behind them means nothing.
-    sets: [PeerSet<K>; PLACES],
-    // How many are held.
-    count: usize,
-    // There are nine places.
-    ghost whole: { length sets ≡ 9 },
-    // At most eight of them are held.
-    ghost few: { count ≤ 8 },
+    // The sets, in the order in which they were entered.
+    sets: ArrayVec<PeerSet<K>, PLACES>,
+    // At most eight are held.
+    ghost few: { array_vec_len sets ≤ 8 },
 }

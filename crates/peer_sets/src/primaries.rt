@@ -1,7 +1,7 @@
-ghost use Rattle.std.specs.Prelude.{◌≡◌};
+ghost use Rattle.std.specs.Prelude.{◌≡◌, []};
 ghost use Rattle.std.specs.List.{slice_get};
 ghost use Rattle.key_list.specs.Keys.{has, without};
-ghost use Rattle.key_list.specs.Members.{Made as Listed};
+ghost use Rattle.key_list.specs.Members.{keys_in, Made as Listed};
 ghost use Rattle.bit_set.specs.Members.{members};
 ghost use Rattle.model.specs.Sets.{primaries};
 ghost use Rattle.model.specs.There.{marked_first};
@@ -16,14 +16,13 @@ use types::BitVec;
 pub(crate) fn unmarked<K: OrderedKey>(keys: &[K]) -> Option<BitSet<K>>
     ensures { Unmarked K.OrderedKey.order keys.now result }
 {
-    match BitSet::new(keys) {
-        Ok(primary) => Some(primary),
-        Err(_) => None,
-    }
+    BitSet::new(keys).ok()
 }
 
 // No primaries at all.
-pub(crate) fn none<K: OrderedKey>() -> BitSet<K> {
+pub(crate) fn none<K: OrderedKey>() -> BitSet<K>
+    ensures { members result ≡ [] }
+{
     match BitSet::new(&[]) {
         Ok(primary) => primary,
         Err(_) => unreachable(),
@@ -35,16 +34,22 @@ pub(crate) fn apart<K: OrderedKey>(keys: &[K], primary: &BitSet<K>) -> Option<Ke
     ensures { Listed (without K.OrderedKey.order keys.now (primaries (members primary.now))) result }
 {
     let mut apart = KeyList::new();
-    for i in 0..keys.len() {
-        let key = keys[i];
-        if has_key(primary, &key) {
+    for key in keys {
+        if has_key(primary, key) {
             continue;
         }
-        if !apart.push(key) {
+        if !apart.push(*key) {
             return None;
         }
     }
     Some(apart)
+}
+
+// The keys of the primaries, in their order.
+pub(crate) fn keys_of<K: OrderedKey>(primary: &BitSet<K>) -> KeyList<K>
+    ensures { keys_in result ≡ primaries (members primary.now) }
+{
+    primary.keys()
 }
 
 // The primary at an index, or none past the last.

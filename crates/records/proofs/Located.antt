@@ -1,30 +1,18 @@
--- A look-up by the place at which a key stands.
+-- Entries of keys that stand at places.
 use Rattle.std.proofs.Common.{◌≡◌, ℕ, zero, suc, ◌<◌, List, [], ◌∷◌, length, Some, None, Option, Ordering, get_or, sym, refl, ap, ◌∙◌, arith}
-use Rattle.std.specs.List.{slice_get}
-use Rattle.std.proofs.lemmas.Option.{slice_get-get_or}
 use Rattle.keys.specs.Order.{Lawful}
 use Rattle.rolls.specs.Places.{at, Absent, Distinct, NoneEmpty}
 use Rattle.rolls.proofs.Tables.{within}
 use Rattle.tables.specs.Listings.{lookup, listing}
 use Rattle.tables.proofs.Entries.{length-put_new}
-use Rattle.tables.proofs.Listed.{lookup-listing, lookup_absent}
+use Rattle.tables.proofs.Listed.{some_value, lookup-listing, lookup_absent}
 
 module _ {K V : Type 0} (order : K → K → Ordering) (lawful : Lawful order) where
-  some_of : (vs : List V) → 0 < length vs → V
-  some_of [] h = absurd (omega arith)
-  some_of (v ∷ vs) h = v
-
-  pub lookup-at : (ps : List (Option K)) (vs : List V) (p : ℕ) (k : K) → length vs ≡ length ps → Distinct ps → at ps p ≡ Some k → lookup order k (listing order ps vs) ≡ slice_get vs p
-  lookup-at ps vs p k long distinct e =
-      let inside : p < length ps = within ps p k e in
-      let d : V = some_of vs (omega arith) in
-      lookup-listing order lawful ps vs p k d long distinct e ∙ sym (slice_get-get_or vs p d (omega arith))
-
   -- a key that stands at a place has an entry
   pub recorded : (ps : List (Option K)) (vs : List V) (p : ℕ) (k : K) → length vs ≡ length ps → Distinct ps → at ps p ≡ Some k → lookup order k (listing order ps vs) ≡ None → ⊥
   recorded ps vs p k long distinct e none =
       let inside : p < length ps = within ps p k e in
-      let d : V = some_of vs (omega arith) in
+      let d : V = some_value vs (omega arith) in
       let both : Some (get_or vs p d) ≡ None = sym (lookup-listing order lawful ps vs p k d long distinct e) ∙ none in
       cc
 

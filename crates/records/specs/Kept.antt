@@ -32,10 +32,6 @@ module _ {K R : Type 0} (m : roll.Ghosts R K) where
   abbrev pub places_of : Records K R → List (Option K)
   places_of p = table.places_of m p.table
 
-  -- sound if the table is
-  abbrev pub Sound : Records K R → Type 0
-  Sound p = table.Sound m p.table
-
   module _ (o : ordered.Ghosts K) where
     -- the records, by ascending key
     abbrev pub records_of : Records K R → List (K × Record K)
@@ -48,7 +44,6 @@ module _ {K R : Type 0} (m : roll.Ghosts R K) where
 
     -- the record of one key was written; the places stay
     pub record Written (before after : Records K R) (key : K) (r : Record K) : Type 0 where
-      pub sound : Sound after
       pub now_records : records_of after ≡ put o.order key r (records_of before)
       pub same_places : places_of after ≡ places_of before
 
@@ -60,7 +55,6 @@ module _ {K R : Type 0} (m : roll.Ghosts R K) where
 
     -- a turn of one key's record was taken
     pub record Settled (before after : Records K R) (key : K) (turn : Turn K) : Type 0 where
-      pub sound : Sound after
       pub now_records : records_of after ≡ turned o.order key turn (records_of before)
       pub now_places : PlacesAfter (places_of before) (places_of after) key turn
 
@@ -71,14 +65,12 @@ module _ {K R : Type 0} (m : roll.Ghosts R K) where
 
     -- an info was taken or passed over
     pub record Learnt (before after : Records K R) (info : Info K) (learnt : Option (Record K)) : Type 0 where
-      pub sound : Sound after
       pub is : learnt ≡ info_turn o.order info (lookup o.order info.public_key (records_of before))
       pub now_records : records_of after ≡ with_learnt info.public_key learnt (records_of before)
       pub same_places : places_of after ≡ places_of before
 
     -- one record more or another, changed from what was known
     pub record Raised (before after : Records K R) (change : Record K → Record K) (key : K) : Type 0 where
-      pub sound : Sound after
       pub now_records : records_of after ≡ put o.order key (change (known o.order (records_of before) key)) (records_of before)
       pub filled : Filled (places_of before) (places_of after)
 
@@ -93,20 +85,17 @@ module _ {K R : Type 0} (m : roll.Ghosts R K) where
 
     -- the record of a key changed, if it has one; the places stay
     pub record Lowered (before after : Records K R) (change : Record K → Record K) (key : K) : Type 0 where
-      pub sound : Sound after
       pub now_records : records_of after ≡ changed o.order change key (lookup o.order key (records_of before)) (records_of before)
       pub same_places : places_of after ≡ places_of before
 
     -- Of a list of keys all but the last ones, which are left, have been changed alike: with those changed too, the records are
     -- what they become by the whole list. Keys without a record have got one.
     pub record RaisedAll (before after : Records K R) (change : Record K → Record K) (keys left : List K) : Type 0 where
-      pub sound : Sound after
       pub now_records : each o.order change left (records_of after) ≡ each o.order change keys (records_of before)
       pub filled : Filled (places_of before) (places_of after)
 
     -- the same of keys that have a record; the places stay
     pub record LoweredAll (before after : Records K R) (change : Record K → Record K) (keys left : List K) : Type 0 where
-      pub sound : Sound after
       pub now_records : each_there o.order change left (records_of after) ≡ each_there o.order change keys (records_of before)
       pub same_places : places_of after ≡ places_of before
 
@@ -120,7 +109,6 @@ module _ {K R : Type 0} (m : roll.Ghosts R K) where
 
     pub record Joined (before after : Records K R) (set : PeerSet K) : Type 0 where
       pub room : fits before set ≡ true
-      pub sound : Sound after
       pub now_records : records_of after ≡ with_members set (records_of before)
       pub filled : Filled (places_of before) (places_of after)
 
@@ -134,7 +122,6 @@ module _ {K R : Type 0} (m : roll.Ghosts R K) where
 
     -- members have left: those who have a record are in one set fewer
     pub record Left (before after : Records K R) (set : PeerSet K) : Type 0 where
-      pub sound : Sound after
       pub now_records : records_of after ≡ left_there o.order set (records_of before)
       pub same_places : places_of after ≡ places_of before
 
@@ -144,18 +131,15 @@ module _ {K R : Type 0} (m : roll.Ghosts R K) where
     without_stale set k (Some r) records = cond (is_stale o.order set k r) (cut o.order k records) records
 
     pub record TidiedOne (before after : Records K R) (set : PeerSet K) (k : K) : Type 0 where
-      pub sound : Sound after
       pub now_records : records_of after ≡ without_stale set k (lookup o.order k (records_of before)) (records_of before)
       pub emptied : Emptied (places_of before) (places_of after)
 
     -- the records of stale members have gone
     pub record Tidied (before after : Records K R) (set : PeerSet K) : Type 0 where
-      pub sound : Sound after
       pub now_records : records_of after ≡ tidied o.order set (records_of before)
       pub emptied : Emptied (places_of before) (places_of after)
 
     -- those of the first so many records have
     pub record TidiedFirst (before after : Records K R) (set : PeerSet K) (n : ℕ) : Type 0 where
-      pub sound : Sound after
       pub now_records : records_of after ≡ entries_where (λ k r. not (is_stale o.order set k r)) (take n (records_of before)) ++ drop n (records_of before)
       pub emptied : Emptied (places_of before) (places_of after)

@@ -5,7 +5,7 @@ use keys::Key;
 use record::Record;
 
 // Which records are chosen.
-#[derive(Clone, Copy)]
+#[derive(Clone, Copy, Debug, PartialEq, Eq)]
 pub enum Choice {
     // Those of primaries.
     Primaries,

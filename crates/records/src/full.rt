@@ -5,7 +5,7 @@ use model::Fault;
 use rolls::RollFault;
 
 // There is no place for the records of all peers.
-#[derive(Clone, Copy)]
+#[derive(Clone, Copy, Debug, PartialEq, Eq)]
 pub struct PeersFull;
 
 // A roll that answers full has no place for a peer.

@@ -5,7 +5,7 @@ use keys::Key;
 use record::Record;
 
 // How a set has a peer.
-#[derive(Clone, Copy)]
+#[derive(Clone, Copy, Debug, PartialEq, Eq)]
 pub enum Rank {
     // As a primary.
     Primary,

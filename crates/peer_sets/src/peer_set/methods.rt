@@ -4,7 +4,7 @@ ghost use Rattle.key_list.specs.Keys.{has};
 ghost use Rattle.key_list.specs.Members.{keys_in};
 ghost use Rattle.model.specs.Sets.{primaries};
 ghost use Rattle.model.specs.Track.{is_member};
-ghost use Rattle.peer_sets.specs.Held.{set_of, can_make, Made, marked_at, marked_set, Carried};
+ghost use Rattle.peer_sets.specs.Held.{set_of, IsBlank, can_make, Made, marked_at, marked_set, Carried};
 
 use super::PeerSet;
 use crate::primaries;
@@ -21,26 +21,13 @@ impl<K: OrderedKey> PeerSet<K> {
         ensures test { is_some result ≡ can_make K.OrderedKey.order primary.now secondary.now }
         ensures made { Made K.OrderedKey.order index primary.now secondary.now result }
     {
-        let Some(primary) = primaries::unmarked(primary) else {
-            return None;
-        };
-        let Some(secondary) = primaries::apart(secondary, &primary) else {
-            return None;
-        };
+        let primary = primaries::unmarked(primary)?;
+        let secondary = primaries::apart(secondary, &primary)?;
         Some(PeerSet {
             index,
             primary,
             secondary,
         })
-    }
-
-    // A set with no members, for a place in which no set is held.
-    pub(crate) fn empty() -> Self {
-        PeerSet {
-            index: 0,
-            primary: primaries::none(),
-            secondary: KeyList::new(),
-        }
     }
 
     // The number by which peers know the set.
@@ -82,14 +69,7 @@ impl<K: OrderedKey> PeerSet<K> {
     pub fn primaries(&self) -> KeyList<K>
         ensures { keys_in result ≡ primaries (set_of self.now).primary }
     {
-        let mut keys = KeyList::new();
-        for i in 0..self.primary_len() {
-            let Some(key) = self.primary_at(i) else {
-                return keys;
-            };
-            keys.push_if(key, true);
-        }
-        keys
+        primaries::keys_of(&self.primary)
     }
 
     // The secondaries, in key order.
@@ -110,10 +90,7 @@ impl<K: OrderedKey> PeerSet<K> {
     pub fn is_member(&self, key: &K) -> bool
         ensures { result ≡ is_member K.OrderedKey.order (set_of self.now) key.now }
     {
-        if self.is_primary(key) {
-            return true;
-        }
-        self.secondary.has(key)
+        self.is_primary(key) || self.secondary.has(key)
     }
 
     // Sets whether the information of the primary at an index is known. Past the last primary
@@ -136,6 +113,19 @@ impl<K: OrderedKey> PeerSet<K> {
         ensures { Carried (set_of self.now).index (set_of self.now).primary result }
     {
         primaries::bits_of(&self.primary, self.index)
+    }
+}
+
+// A set with no members.
+impl<K: OrderedKey> Default for PeerSet<K> {
+    ghost is_default = { IsBlank };
+
+    fn default() -> Self {
+        PeerSet {
+            index: 0,
+            primary: primaries::none(),
+            secondary: KeyList::new(),
+        }
     }
 }
 

@@ -1,9 +1,9 @@
 ghost use Rattle.std.specs.Prelude.{◌≡◌, ◌-◌, ◌≤◌, true, [], length, is_some, is_ok, if◌then◌else◌};
 ghost use Rattle.key_list.specs.Members.{keys_in};
 ghost use Rattle.peer_sets.specs.Held.{set_of};
-ghost use Rattle.tables.specs.Listings.{lookup, keys_where};
+ghost use Rattle.tables.specs.Listings.{keys_where};
 ghost use Rattle.model.specs.Track.{known, newcomers, each, to_close};
-ghost use Rattle.records.specs.Kept.{Sound, fits, places_of, records_of, RaiseAnswer, RaisedAll, JoinAnswer, Lowered, LoweredAll, Left, TidiedOne, Tidied};
+ghost use Rattle.records.specs.Kept.{fits, places_of, records_of, RaiseAnswer, RaisedAll, JoinAnswer, Lowered, LoweredAll, Left, TidiedOne, Tidied};
 ghost use Rattle.records.specs.Ranks.{raised, lowered, is_stale, is_cut_off, is_chosen, Proper};
 
 use super::Records;
@@ -23,28 +23,17 @@ fn is_stale<K: OrderedKey>(members: &PeerSet<K>, key: &K, found: &Record<K>) -> 
     members.is_member(key) && found.deletable()
 }
 
-// Whether the link to a peer is to be closed: it is among the members, has a reservation or
-// connection, and is not eligible.
-fn is_cut_off<K: OrderedKey>(members: &PeerSet<K>, key: &K, found: &Record<K>) -> bool
-    ensures { result ≡ is_cut_off K.OrderedKey.order (set_of members.now) key.now found.now }
-{
-    members.is_member(key) && found.needs_teardown()
-}
-
 impl<K: OrderedKey, R: Roll<K>> Records<K, R> {
     // The record of a peer, or a new one of a peer of which nothing is known.
     fn known(&self, key: &K) -> Record<K>
-        ensures { Sound R.Roll self.now → result ≡ known K.OrderedKey.order (records_of R.Roll K.OrderedKey.own self.now) key.now }
+        ensures { result ≡ known K.OrderedKey.order (records_of R.Roll K.OrderedKey.own self.now) key.now }
     {
-        match self.get(key) {
-            Some(record) => record,
-            None => Record::unknown(),
-        }
+        self.get(key).unwrap_or(Record::unknown())
     }
 
     // One set more has a peer. It gets a record if it has none.
     fn raise_one(&mut self, rank: Rank, key: &K) -> Result<(), PeersFull>
-        ensures { Sound R.Roll self.old → RaiseAnswer R.Roll K.OrderedKey.own self.old self.new (raised rank) key.now result }
+        ensures { RaiseAnswer R.Roll K.OrderedKey.own self.old self.new (raised rank) key.now result }
     {
         let mut record = self.known(key);
         raise(rank, &mut record);
@@ -54,7 +43,7 @@ impl<K: OrderedKey, R: Roll<K>> Records<K, R> {
 
     // One set fewer has a peer, if it has a record.
     fn lower_one(&mut self, rank: Rank, key: &K)
-        ensures { Sound R.Roll self.old → Lowered R.Roll K.OrderedKey.own self.old self.new (lowered rank) key.now }
+        ensures { Lowered R.Roll K.OrderedKey.own self.old self.new (lowered rank) key.now }
     {
         let Some(place) = self.find(key) else {
             return;
@@ -66,40 +55,19 @@ impl<K: OrderedKey, R: Roll<K>> Records<K, R> {
         self.table.write(place, record);
     }
 
-    // One for a peer that has no record.
-    fn lacking(&self, key: &K) -> usize
-        ensures few { result ≤ 1 }
-        ensures one { Sound R.Roll self.now → result ≡ (if is_some (lookup K.OrderedKey.order key.now (records_of R.Roll K.OrderedKey.own self.now)) then 0 else 1) }
-    {
-        match self.get(key) {
-            Some(_) => 0,
-            None => 1,
-        }
-    }
-
     // How many of these peers have no record.
     fn newcomers(&self, keys: &KeyList<K>) -> usize
         ensures few { result ≤ 64 }
-        ensures all { Sound R.Roll self.now → result ≡ newcomers K.OrderedKey.order (keys_in keys.now) (records_of R.Roll K.OrderedKey.own self.now) }
+        ensures all { result ≡ newcomers K.OrderedKey.order (keys_in keys.now) (records_of R.Roll K.OrderedKey.own self.now) }
     {
-        let mut count = 0;
-        for i in 0..keys.len() {
-            let Some(key) = keys.key_at(i) else {
-                return count;
-            };
-            count += self.lacking(&key);
-        }
-        count
+        keys.iter().filter(|key| self.get(key).is_none()).count()
     }
 
     // One set more has each of these peers.
     fn raise_all(&mut self, rank: Rank, keys: &KeyList<K>) -> Result<(), PeersFull>
-        ensures { Sound R.Roll self.old → length (each K.OrderedKey.order (raised rank) (keys_in keys.now) (records_of R.Roll K.OrderedKey.own self.old)) ≤ length (places_of R.Roll self.old) → (is_ok result ≡ true) × RaisedAll R.Roll K.OrderedKey.own self.old self.new (raised rank) (keys_in keys.now) [] }
+        ensures { length (each K.OrderedKey.order (raised rank) (keys_in keys.now) (records_of R.Roll K.OrderedKey.own self.old)) ≤ length (places_of R.Roll self.old) → (is_ok result ≡ true) × RaisedAll R.Roll K.OrderedKey.own self.old self.new (raised rank) (keys_in keys.now) [] }
     {
-        for i in 0..keys.len() {
-            let Some(key) = keys.key_at(i) else {
-                return Ok(());
-            };
+        for key in keys.iter() {
             self.raise_one(rank, &key)?;
         }
         Ok(())
@@ -107,26 +75,23 @@ impl<K: OrderedKey, R: Roll<K>> Records<K, R> {
 
     // One set fewer has each of these peers.
     fn lower_all(&mut self, rank: Rank, keys: &KeyList<K>)
-        ensures { Sound R.Roll self.old → LoweredAll R.Roll K.OrderedKey.own self.old self.new (lowered rank) (keys_in keys.now) [] }
+        ensures { LoweredAll R.Roll K.OrderedKey.own self.old self.new (lowered rank) (keys_in keys.now) [] }
     {
-        for i in 0..keys.len() {
-            let Some(key) = keys.key_at(i) else {
-                return;
-            };
+        for key in keys.iter() {
             self.lower_one(rank, &key);
         }
     }
 
     // How many more records there is room for.
     fn room(&self) -> usize
-        ensures { Sound R.Roll self.now → result ≡ length (places_of R.Roll self.now) - length (records_of R.Roll K.OrderedKey.own self.now) }
+        ensures { result ≡ length (places_of R.Roll self.now) - length (records_of R.Roll K.OrderedKey.own self.now) }
     {
         self.table.size().saturating_sub(self.table.count())
     }
 
     // Whether there is room for the records of all members.
     fn has_room(&self, members: &PeerSet<K>) -> bool
-        ensures { Sound R.Roll self.now → result ≡ fits R.Roll K.OrderedKey.own self.now (set_of members.now) }
+        ensures { result ≡ fits R.Roll K.OrderedKey.own self.now (set_of members.now) }
     {
         self.newcomers(&members.primaries()) + self.newcomers(&members.secondaries()) <= self.room()
     }
@@ -134,7 +99,7 @@ impl<K: OrderedKey, R: Roll<K>> Records<K, R> {
     // One set more has these members. Those without a record get one, if there is room for all of
     // them; if not, nothing changes.
     pub fn join(&mut self, members: &PeerSet<K>) -> Result<(), PeersFull>
-        ensures { Sound R.Roll self.old → Proper K.OrderedKey.order (set_of members.now) → JoinAnswer R.Roll K.OrderedKey.own self.old self.new (set_of members.now) result }
+        ensures { Proper K.OrderedKey.order (set_of members.now) → JoinAnswer R.Roll K.OrderedKey.own self.old self.new (set_of members.now) result }
     {
         if !self.has_room(members) {
             return Err(PeersFull);
@@ -145,7 +110,7 @@ impl<K: OrderedKey, R: Roll<K>> Records<K, R> {
 
     // One set fewer has these members.
     pub fn leave(&mut self, members: &PeerSet<K>)
-        ensures { Sound R.Roll self.old → Left R.Roll K.OrderedKey.own self.old self.new (set_of members.now) }
+        ensures { Left R.Roll K.OrderedKey.own self.old self.new (set_of members.now) }
     {
         self.lower_all(Rank::Primary, &members.primaries());
         self.lower_all(Rank::Secondary, &members.secondaries());
@@ -153,7 +118,7 @@ impl<K: OrderedKey, R: Roll<K>> Records<K, R> {
 
     // Deletes the record of a peer that is among members of a set, if nothing holds it.
     fn tidy_one(&mut self, members: &PeerSet<K>, key: &K)
-        ensures { Sound R.Roll self.old → TidiedOne R.Roll K.OrderedKey.own self.old self.new (set_of members.now) key.now }
+        ensures { TidiedOne R.Roll K.OrderedKey.own self.old self.new (set_of members.now) key.now }
     {
         let Some(place) = self.find(key) else {
             return;
@@ -169,44 +134,30 @@ impl<K: OrderedKey, R: Roll<K>> Records<K, R> {
 
     // Deletes the records of members that nothing holds any more.
     pub fn tidy(&mut self, members: &PeerSet<K>)
-        ensures { Sound R.Roll self.old → Tidied R.Roll K.OrderedKey.own self.old self.new (set_of members.now) }
+        ensures { Tidied R.Roll K.OrderedKey.own self.old self.new (set_of members.now) }
     {
         let keys = self.table.keys();
-        for i in 0..keys.len() {
-            let Some(key) = keys.key_at(i) else {
-                return;
-            };
+        for key in keys.iter() {
             self.tidy_one(members, &key);
         }
     }
 
-    // The members whose links are to be closed, in key order.
+    // The members whose links are to be closed, in key order: those that have a reservation or
+    // connection and are not eligible.
     pub fn to_close(&self, members: &PeerSet<K>) -> KeyList<K>
-        ensures { Sound R.Roll self.now → keys_in result ≡ to_close K.OrderedKey.order (set_of members.now) (records_of R.Roll K.OrderedKey.own self.now) }
+        ensures { keys_in result ≡ to_close K.OrderedKey.order (set_of members.now) (records_of R.Roll K.OrderedKey.own self.now) }
     {
-        let keys = self.table.keys();
-        let mut named = KeyList::new();
-        for i in 0..keys.len() {
-            let Some(found) = self.table.entry(&keys, i) else {
-                return named;
-            };
-            named.push_if(found.0, is_cut_off(members, &found.0, &found.1));
-        }
-        named
+        self.table.keys_where(
+            |key, record|
+                ensures { result ≡ is_cut_off K.OrderedKey.order (set_of members.entry.now) key record.now }
+            { members.is_member(&key) && record.needs_teardown() },
+        )
     }
 
     // The keys of the records that are chosen, in key order.
     pub fn chosen(&self, choice: Choice) -> KeyList<K>
-        ensures { Sound R.Roll self.now → keys_in result ≡ keys_where (λ k. is_chosen choice) (records_of R.Roll K.OrderedKey.own self.now) }
+        ensures { keys_in result ≡ keys_where (λ k. is_chosen choice) (records_of R.Roll K.OrderedKey.own self.now) }
     {
-        let keys = self.table.keys();
-        let mut named = KeyList::new();
-        for i in 0..keys.len() {
-            let Some(found) = self.table.entry(&keys, i) else {
-                return named;
-            };
-            named.push_if(found.0, is_chosen(choice, &found.1));
-        }
-        named
+        self.table.keys_where(|_, record| is_chosen(choice, record))
     }
 }

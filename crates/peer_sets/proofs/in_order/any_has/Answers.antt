@@ -1,17 +1,11 @@
-use Rattle.std.proofs.Common.{sym, ◌∙◌, arith}
-use Rattle.std.proofs.lemmas.Bool.{eq-eqb, ne_eqb}
-use Rattle.peer_sets.proofs.Rows.{held_here, held_further, held_nowhere}
+use Rattle.std.proofs.Common.{eqb, rules, of_calls, ◌∙◌}
+use borrow.Author.Tests.{tests}
+use Rattle.std.proofs.lemmas.Iterator.{YieldsList-from_slice}
+use Rattle.std.proofs.lemmas.Iterator.Search.{any_from_yields_List}
+use Rattle.peer_sets.proofs.Rows.{any_held}
 use Rattle.peer_sets.proofs.in_order.any_has.Goals as goal
 
-pub returns-then-index : goal.returns-then-index
-returns-then-index g c =
-    sym (held_here c.args.index c.args.sets.now c.loop-i.i c.index-sets-i.result (omega arith) c.index-sets-i.is (eq-eqb _ _ (sym c.index.ensures ∙ c.if-index.true)))
-    ∙ c.loop-i.invariant
-
-pub loop-i-preserved : goal.loop-i-preserved
-loop-i-preserved g c =
-    sym (held_further c.args.index c.args.sets.now c.loop-i.i c.index-sets-i.result (omega arith) c.index-sets-i.is (ne_eqb _ _ (λ e. c.if-index.false (c.index.ensures ∙ e))))
-    ∙ c.loop-i.invariant
-
 pub returns : goal.returns
-returns g c = sym (held_nowhere c.args.index c.args.sets.now c.loop-i.i (omega arith)) ∙ c.loop-i.invariant
+returns g c =
+    any_from_yields_List (λ s. eqb s.index c.args.index) _ _ _ c.any.ensures.ran (YieldsList-from_slice c.args.sets.now cc) (λ x b q called. search (rules, of_calls, tests))
+    ∙ any_held c.args.index c.args.sets.now

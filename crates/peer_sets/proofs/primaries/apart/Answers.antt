@@ -10,19 +10,19 @@ use Rattle.peer_sets.proofs.primaries.apart.Goals as goal
 
 pub returns-then-not-push : goal.returns-then-not-push
 returns-then-not-push g c =
-    apart-full g.K.OrderedKey.order (keys_in c.loop-i.apart) c.args.keys.now (primaries (members c.args.primary.now)) c.loop-i.i c.index-keys-i.result (omega arith) c.index-keys-i.is (sym c.if-has_key.ensures) (ltb-false _ _ (sym c.if-not-push.ensures.room)) c.loop-i.invariant
+    apart-full g.K.OrderedKey.order (keys_in c.loop-key.apart) c.args.keys.now (primaries (members c.args.primary.now)) c.loop-key.key-index c.key-item.result (omega arith) c.key-item.is (sym c.if-has_key.ensures) (ltb-false _ _ (sym c.if-not-push.ensures.room)) c.loop-key.invariant
 
-pub loop-i-preserved-then-has_key : goal.loop-i-preserved-then-has_key
-loop-i-preserved-then-has_key g c =
-    apart_skips g.K.OrderedKey.order (keys_in c.loop-i.apart) c.args.keys.now (primaries (members c.args.primary.now)) c.loop-i.i c.index-keys-i.result (omega arith) c.index-keys-i.is (sym c.if-has_key.ensures)
-    ∙ c.loop-i.invariant
+pub loop-key-preserved-then-has_key : goal.loop-key-preserved-then-has_key
+loop-key-preserved-then-has_key g c =
+    apart_skips g.K.OrderedKey.order (keys_in c.loop-key.apart) c.args.keys.now (primaries (members c.args.primary.now)) c.loop-key.key-index c.key-item.result (omega arith) c.key-item.is (sym c.if-has_key.ensures)
+    ∙ c.loop-key.invariant
 
-pub loop-i-preserved : goal.loop-i-preserved
-loop-i-preserved g c =
-    ap (λ ks. ks ++ without g.K.OrderedKey.order (drop (c.loop-i.i + 1) c.args.keys.now) (primaries (members c.args.primary.now))) c.if-not-push.ensures.now_keys
-    ∙ apart-takes g.K.OrderedKey.order (keys_in c.loop-i.apart) c.args.keys.now (primaries (members c.args.primary.now)) c.loop-i.i c.index-keys-i.result (omega arith) c.index-keys-i.is (sym c.if-has_key.ensures)
-    ∙ c.loop-i.invariant
+pub loop-key-preserved : goal.loop-key-preserved
+loop-key-preserved g c =
+    ap (λ ks. ks ++ without g.K.OrderedKey.order (drop (c.loop-key.key-index + 1) c.args.keys.now) (primaries (members c.args.primary.now))) c.if-not-push.ensures.now_keys
+    ∙ apart-takes g.K.OrderedKey.order (keys_in c.loop-key.apart) c.args.keys.now (primaries (members c.args.primary.now)) c.loop-key.key-index c.key-item.result (omega arith) c.key-item.is (sym c.if-has_key.ensures)
+    ∙ c.loop-key.invariant
 
 pub returns : goal.returns
 returns g c =
-    apart_all g.K.OrderedKey.order (keys_in c.loop-i.apart) c.args.keys.now (primaries (members c.args.primary.now)) c.loop-i.i (omega arith) (few-keys c.loop-i.apart) c.loop-i.invariant
+    apart_all g.K.OrderedKey.order (keys_in c.loop-key.apart) c.args.keys.now (primaries (members c.args.primary.now)) c.loop-key.key-index (omega arith) (few-keys c.loop-key.apart) c.loop-key.invariant

@@ -5,10 +5,8 @@ pub returns : goal.returns
 returns g c =
     let s = c.args.self.now.expiries in
     record {
-      stays_sound = c.enter.ensures.stays_sound;
       entered = c.enter.ensures.entered;
       fits =
-          λ sound.
-          enter_fits g.B.Roll g.K.OrderedKey g.met.K.OrderedKey.lawful s c.enter.new.self c.args.key c.args.expiry c.enter.result sound
-          (g.met.B.Roll.proper s.roll sound.roll_sound).distinct (c.enter.ensures.entered sound);
+          enter_fits g.B.Roll g.K.OrderedKey g.met.K.OrderedKey.lawful s c.enter.new.self c.args.key c.args.expiry c.enter.result
+          c.enter.ensures.whole c.enter.ensures.entered;
     }

@@ -1,33 +1,6 @@
-use Rattle.std.proofs.Common.{◌<◌, cond, [], ◌∷◌, ◌++◌, length, sym, ap, ◌∙◌, arith}
-use Rattle.key_list.specs.Members.{keys_in}
-use Rattle.key_list.proofs.Rows.{few-keys}
-use Rattle.key_list.proofs.Walks.{past_from_nth}
-use Rattle.tables.proofs.Walks.{length-keys}
-use Rattle.records.specs.Kept.{records_of}
+use Rattle.std.proofs.Common.{of_calls}
 use Rattle.records.specs.Ranks.{is_chosen}
-use Rattle.records.proofs.Chosen.{chosen_more, chosen_all}
 use Rattle.records.proofs.records.Records.chosen.Goals as goal
 
-pub loop-i-preserved : goal.loop-i-preserved
-loop-i-preserved g c = (
-  omega (arith, c.push_if.ensures.one_more, c.loop-i.invariant.0),
-  λ sound.
-      let named = keys_in c.loop-i.named in
-      let k = c.in-Some.found.0 in
-      let room : length named < 64 = omega (arith, c.loop-i.invariant.0, c.len-i-end.ensures, few-keys c.keys-keys.result) in
-      chosen_more (λ k. is_chosen c.args.choice) (records_of g.R.Roll g.K.OrderedKey c.args.self.now) c.loop-i.i named
-      (c.loop-i.invariant.1 sound) k c.in-Some.found.1 (keys_in c.push_if.new.self) (sym (c.in-Some.ensures sound (c.keys-keys.ensures sound)))
-      (c.push_if.ensures.now_keys room ∙ ap (λ t. cond t (named ++ k ∷ []) named) c.is_chosen.ensures),
-)
-
-pub returns-in_default : goal.returns-in_default
-returns-in_default g c sound =
-    let es = records_of g.R.Roll g.K.OrderedKey c.args.self.now in
-    chosen_all (λ k. is_chosen c.args.choice) es c.loop-i.i (keys_in c.loop-i.named) (c.loop-i.invariant.1 sound)
-    (past_from_nth es c.loop-i.i (sym (c.in_default.ensures sound (c.keys-keys.ensures sound))))
-
 pub returns : goal.returns
-returns g c sound =
-    let es = records_of g.R.Roll g.K.OrderedKey c.args.self.now in
-    chosen_all (λ k. is_chosen c.args.choice) es c.loop-i.i (keys_in c.loop-i.named) (c.loop-i.invariant.1 sound)
-    (omega (arith, c.len-i-end.ensures, ap length (c.keys-keys.ensures sound), length-keys es, c.loop-i-test.false))
+returns g c = c.keys_where.ensures (λ k. is_chosen c.args.choice) (λ k v r called. search of_calls)

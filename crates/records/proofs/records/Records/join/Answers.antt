@@ -12,7 +12,7 @@ use Rattle.records.proofs.Joins.{room_first, room_both}
 use Rattle.records.proofs.records.Records.join.Goals as goal
 
 pub returns-in_err-raise_all : goal.returns-in_err-raise_all
-returns-in_err-raise_all g c sound proper =
+returns-in_err-raise_all g c proper =
     let d = c.args.self.now in
     let o = g.K.OrderedKey in
     let p = primaries (set_of c.args.members.now).primary in
@@ -21,13 +21,13 @@ returns-in_err-raise_all g c sound proper =
     let first =
     room_first o.order g.met.K.OrderedKey.lawful p q es proper.primaries_ascend proper.secondaries_ascend proper.apart
     (ascending-entries g.R.Roll o g.met.K.OrderedKey.lawful d.table) primary_up secondary_up (length (places_of g.R.Roll d))
-    (sym (c.if-not-has_room.ensures sound)) in
+    (sym c.if-not-has_room.ensures) in
     let room : length (each o.order primary_up (keys_in c.primaries.result) es) ≤ length (places_of g.R.Roll d) =
     omega (arith, ap (λ ks. length (each o.order primary_up ks es)) c.primaries.ensures, first) in
-    absurd (false≢true (c.in_err-raise_all.ensures sound room).0)
+    absurd (false≢true (c.in_err-raise_all.ensures room).0)
 
 pub returns : goal.returns
-returns g c sound proper =
+returns g c proper =
     let d = c.args.self.now in
     let o = g.K.OrderedKey in
     let p = primaries (set_of c.args.members.now).primary in
@@ -35,7 +35,7 @@ returns g c sound proper =
     let es = records_of g.R.Roll o d in
     let mid = c.raise_all.new.self in
     let ordered = ascending-entries g.R.Roll o g.met.K.OrderedKey.lawful d.table in
-    let fit = sym (c.if-not-has_room.ensures sound) in
+    let fit = sym c.if-not-has_room.ensures in
     let first =
     room_first o.order g.met.K.OrderedKey.lawful p q es proper.primaries_ascend proper.secondaries_ascend proper.apart ordered primary_up secondary_up
     (length (places_of g.R.Roll d)) fit in
@@ -44,17 +44,16 @@ returns g c sound proper =
     (length (places_of g.R.Roll d)) fit in
     let room-one : length (each o.order primary_up (keys_in c.primaries.result) es) ≤ length (places_of g.R.Roll d) =
     omega (arith, ap (λ ks. length (each o.order primary_up ks es)) c.primaries.ensures, first) in
-    let one = (c.in_ok-raise_all.ensures sound room-one).1 in
+    let one = (c.in_ok-raise_all.ensures room-one).1 in
     let now-one = one.now_records ∙ ap (λ ks. each o.order primary_up ks es) c.primaries.ensures in
     let same-two =
     ap (λ ks. each o.order secondary_up ks (records_of g.R.Roll o mid)) c.secondaries.ensures ∙ ap (each o.order secondary_up q) now-one in
     let room-two : length (each o.order secondary_up (keys_in c.secondaries.result) (records_of g.R.Roll o mid)) ≤ length (places_of g.R.Roll mid) =
     omega (arith, ap length same-two, one.filled.0, both) in
-    let two = c.raise_all-2.ensures one.sound room-two in
+    let two = c.raise_all-2.ensures room-two in
     joined c.raise_all-2.result two.0
     (record {
       room = fit;
-      sound = two.1.sound;
       now_records = two.1.now_records ∙ same-two;
       filled = (two.1.filled.0 ∙ one.filled.0, λ x k h. two.1.filled.1 x k (one.filled.1 x k h));
     })

@@ -7,14 +7,13 @@ use Rattle.records.specs.Kept.{records_of}
 use Rattle.records.proofs.records.Records.leave.Goals as goal
 
 pub returns : goal.returns
-returns g c sound =
+returns g c =
     let order = g.K.OrderedKey.order in
     let es = records_of g.R.Roll g.K.OrderedKey c.args.self.now in
     let set = set_of c.args.members.now in
-    let first = c.lower_all.ensures sound in
-    let second = c.lower_all-2.ensures first.sound in
+    let first = c.lower_all.ensures in
+    let second = c.lower_all-2.ensures in
     record {
-      sound = second.sound;
       now_records =
           second.now_records
           ∙ ap (each_there order secondary_down (keys_in c.secondaries.result)) first.now_records
