@@ -50,7 +50,6 @@ module _ {K R B : Type 0} (o : ordered.Ghosts K) (m : roll.Ghosts R K) (n : roll
       λ i. record { index = (j.now_marked.same_index ∙ fresh.same_index) i; primary = bits i; secondary = (j.now_marked.same_secondary ∙ fresh.no_primary) i } in
       record {
         accepted = (early_passed o.order (state o m n before) index p q early).2 ∙ ap (λ t. cond t None (Some TooManyPeers)) (sym same_room ∙ j.room);
-        sound = j.sound;
         proper =
             proper_alike o.order set marked (ap primaries j.now_marked.now_primary ∙ primaries-with_bits o.order lawful after.config.dial_fail_limit (kept.records_of m o after.records) (primaries set.primary)) j.now_marked.same_secondary
             proper;

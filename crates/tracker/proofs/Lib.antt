@@ -1,6 +1,5 @@
 pub mod Parts
 pub mod Proper
-pub mod Reservations
 pub mod Tellings
 pub mod Learning
 pub mod Blocking

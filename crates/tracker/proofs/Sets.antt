@@ -1,13 +1,17 @@
 -- A new set: why it is refused, and what is left once it is entered.
-use Rattle.std.proofs.Common.{◌≡◌, ℕ, ◌+◌, ◌≤◌, Bool, true, false, cond, not, ◌&&◌, leb, List, [], ◌∷◌, ◌++◌, length, drop, Some, None, Ordering, sym, refl, ap, ◌∙◌, ⊎_elim, arith}
+use Rattle.std.proofs.Common.{◌≡◌, ℕ, ◌+◌, ◌≤◌, Bool, true, false, cond, not, ◌&&◌, leb, List, [], ◌∷◌, ◌++◌, length, drop, Some, None, Option, Ordering, sym, refl, ap, ◌∙◌, ⊎_elim, arith}
+use Rattle.std.specs.Option.{ok_or}
 use Rattle.std.specs.List.{slice_get}
 use Rattle.std.proofs.lemmas.Bool.{cases_Bool, leb-true, le-leb, and_from, both_ways}
 use Rattle.keys.specs.Order.{Lawful, ascending}
+use Rattle.keys.specs.declared.ordered_key.OrderedKey as ordered
+use Rattle.rolls.specs.declared.roll.Roll as roll
 use Rattle.key_list.specs.Keys.{has, without}
 use Rattle.key_list.proofs.Walks.{same_some, some_none}
 use Rattle.tables.specs.Listings.{Ascending}
 use Rattle.records.specs.Ranks.{Proper}
-use Rattle.peer_sets.specs.Held.{Fresh, can_make}
+use Rattle.peer_sets.specs.Held.{held, Fresh, Made, can_make}
+use Rattle.peer_sets.specs.declared.peer_set.PeerSet as sets
 use Rattle.model.specs.Calls.{with_records}
 use Rattle.model.specs.Sets.{is_held, newest}
 use Rattle.model.specs.State.{State, PeerSet}
@@ -16,7 +20,9 @@ use Rattle.model.specs.declared.fault.Fault.{Fault}
 use Rattle.model.specs.declared.fault.Fault.TheVariants as fault
 use Rattle.joining.proofs.Joining.{ascends-without}
 use Rattle.joining.proofs.Rooms.{disjoint_without, length-joined, few-primary, few-secondary}
-use Rattle.tracker.specs.Tracking.{early_refusal}
+use Rattle.tracker.specs.Directories.{state}
+use Rattle.tracker.specs.Tracking.{early_refusal, SetAnswer}
+use Rattle.tracker.specs.declared.directory.Directory.{Directory}
 
 module _ {K : Type 0} (order : K → K → Ordering) (s : State K) (index : ℕ) (p q : List K) where
   pub refusal_early : (f : Fault) → Some f ≡ early_refusal order s.sets index p q → track_refusal order s index p q ≡ Some f
@@ -87,3 +93,11 @@ module _ {K : Type 0} (order : K → K → Ordering) (s : State K) where
       let same = same_some e in
       (ap (λ y. with_records order s (tidied order y (left order y s.records)) xs) (sym same), ap (λ y. to_close order y (left order y s.records)) (sym same))
   one_left false xs oldest e = some_none oldest (sym e) refl
+
+-- a set that was made, or the refusal where it was not
+module _ {K R B : Type 0} (o : ordered.Ghosts K) (m : roll.Ghosts R K) (n : roll.Ghosts B K) (d : Directory K R B) (index : ℕ) (p q : List K) where
+  pub made_or_many : (r : Option (sets.PeerSet K)) → early_refusal o.order (held d.sets) index p q ≡ None
+      → (can_make o.order p q ≡ false → track_refusal o.order (state o m n d) index p q ≡ Some fault.TooManyPeers)
+      → Made o.order index p q r → SetAnswer o m n d index p q (ok_or r fault.TooManyPeers)
+  made_or_many (Some set) early many made = (early, made)
+  made_or_many None early many made = many made

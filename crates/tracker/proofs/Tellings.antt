@@ -10,11 +10,10 @@ use Rattle.turns.specs.declared.turn.Turn as turns
 use Rattle.turns.specs.declared.turn.Turn.TheVariants.{Write, Erase}
 use Rattle.model.specs.Calls.{turn_answer, told, after_telling}
 use Rattle.model.specs.Peers.{Turn, refuse, write, erase}
-use Rattle.model.specs.Runs.{Call, Answer, Done, Refused, done_or, answer, after as left_by}
+use Rattle.model.specs.Runs.{Call, Answer, Done, done_or, answer, after as left_by}
 use Rattle.model.specs.Sets.{marked_all}
 use Rattle.model.specs.State.{PeerSet}
-use Rattle.model.specs.declared.fault.Fault.{Fault}
-use Rattle.tracker.specs.Directories.{Sound, state, Performed, Telling, OneEmptied, known_by}
+use Rattle.tracker.specs.Directories.{state, Performed, Telling, OneEmptied, known_by}
 use Rattle.tracker.specs.declared.directory.Directory.{Directory}
 
 -- the bit of a peer is set in every set held, by whether its information is known
@@ -30,13 +29,12 @@ places-length m o before after k (refuse f) h = ap length h
 places-length m o before after k (write r) h = ap length h
 places-length m o before after k (erase r) h = ap length h.2 ∙ length-set (places_of m before) h.0 None
 
-module _ {K R B : Type 0} (o : ordered.Ghosts K) (m : roll.Ghosts R K) (n : roll.Ghosts B K) (before after : Directory K R B) (call : Call K) (key : K) (turn : Turn K)
+module _ {K R B : Type 0} (o : ordered.Ghosts K) (m : roll.Ghosts R K) (n : roll.Ghosts B K) (before : Directory K R B) (call : Call K) (key : K) (turn : Turn K)
     (answers : answer o.order (state o m n before) call ≡ done_or (turn_answer turn))
     (leaves : left_by o.order (state o m n before) call ≡ after_telling o.order (state o m n before) key turn) where
-  pub performed_telling : (t : turns.Turn K) → taken t ≡ turn → Telling o m n before after key (taken t) → Performed o m n before after call Done
-  performed_telling t e done =
+  pub performed_telling : (after : Directory K R B) (t : turns.Turn K) → taken t ≡ turn → Telling o m n before after key (taken t) → Performed o m n before after call Done
+  performed_telling after t e done =
       record {
-        sound = done.sound;
         answers = accepted t ∙ ap (λ x. done_or (turn_answer x)) e ∙ sym answers;
         leaves = done.leaves ∙ ap (after_telling o.order (state o m n before) key) e ∙ sym leaves;
       }
@@ -45,16 +43,9 @@ module _ {K R B : Type 0} (o : ordered.Ghosts K) (m : roll.Ghosts R K) (n : roll
       accepted (Write r) = refl
       accepted (Erase r) = refl
 
-  pub performed_untold : (f : Fault) → refuse f ≡ turn → Sound o m n before → Performed o m n before before call (Refused f)
-  performed_untold f e sound =
-      record {
-        sound = sound;
-        answers = ap (λ t. done_or (turn_answer t)) e ∙ sym answers;
-        leaves = ap (after_telling o.order (state o m n before) key) e ∙ sym leaves;
-      }
-
-  -- at most the place of the key is emptied
-  pub one_emptied : (t : Turn K) → Telling o m n before after key t → OneEmptied o m n before after key
-  one_emptied (refuse f) h = record { record_places = inl h.record_places; block_places = h.block_places }
-  one_emptied (write r) h = record { record_places = inl h.record_places; block_places = h.block_places }
-  one_emptied (erase r) h = record { record_places = inr h.record_places; block_places = h.block_places }
+-- at most the place of the key is emptied
+pub one_emptied : {K R B : Type 0} (o : ordered.Ghosts K) (m : roll.Ghosts R K) (n : roll.Ghosts B K) (before after : Directory K R B) (key : K) (t : Turn K)
+    → Telling o m n before after key t → OneEmptied o m n before after key
+one_emptied o m n before after key (refuse f) h = record { record_places = inl h.record_places; block_places = h.block_places }
+one_emptied o m n before after key (write r) h = record { record_places = inl h.record_places; block_places = h.block_places }
+one_emptied o m n before after key (erase r) h = record { record_places = inr h.record_places; block_places = h.block_places }

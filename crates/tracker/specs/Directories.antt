@@ -1,13 +1,11 @@
 -- What a directory stands for, and what its calls promise.
-use Rattle.std.specs.Prelude.{◌≡◌, ℕ, ◌+◌, ◌≤◌, Bool, false, cond, not, ◌⊎◌, List, ◌∷◌, length, is_some, Some, None, Ok, Err, Result, slice_set}
-use Rattle.std.specs.List.{AllByRecursion}
+use Rattle.std.specs.Prelude.{◌≡◌, ℕ, ◌+◌, Bool, false, cond, not, ◌⊎◌, List, ◌∷◌, length, is_some, Some, None, Ok, Err, Result, slice_set}
 use Rattle.keys.specs.declared.ordered_key.OrderedKey as ordered
 use Rattle.rolls.specs.declared.roll.Roll as roll
 use Rattle.rolls.specs.Places.{at}
 use Rattle.tables.specs.Tabled as table
 use Rattle.blocks.specs.Blocked as blocked
 use Rattle.records.specs.Kept as kept
-use Rattle.records.specs.Ranks.{Proper}
 use Rattle.peer_sets.specs.Held.{held}
 use Rattle.types.specs.declared.info.Info.{Info}
 use Rattle.record.specs.Records.{wanted}
@@ -36,15 +34,6 @@ module _ {K : Type 0} where
   reserved_or (Err f) = Refused f
 
 module _ {K R B : Type 0} (o : ordered.Ghosts K) (m : roll.Ghosts R K) (n : roll.Ghosts B K) where
-  -- A directory is sound if its tables are, it holds 1 to 8 sets at most, and both lists of each set held ascend and have no key
-  -- in common.
-  pub record Sound (d : Directory K R B) : Type 0 where
-    pub records_sound : kept.Sound m d.records
-    pub blocks_sound : blocked.Sound n d.blocks
-    pub some_sets : 1 ≤ d.config.max_sets
-    pub few_sets : d.config.max_sets ≤ 8
-    pub sets_proper : AllByRecursion (Proper o.order) (held d.sets)
-
   -- what a directory stands for
   abbrev pub state : Directory K R B → State K
   state d =
@@ -73,7 +62,6 @@ module _ {K R B : Type 0} (o : ordered.Ghosts K) (m : roll.Ghosts R K) (n : roll
 
   -- a call was answered, and left the directory, as the definitions have it
   pub record Performed (before after : Directory K R B) (call : Call K) (given : Answer K) : Type 0 where
-    pub sound : Sound after
     pub answers : given ≡ answer o.order (state before) call
     pub leaves : state after ≡ left_by o.order (state before) call
 
@@ -81,19 +69,17 @@ module _ {K R B : Type 0} (o : ordered.Ghosts K) (m : roll.Ghosts R K) (n : roll
   -- leads to the directory after, of whose tables the law holds.
   abbrev pub KeepsLaw : Directory K R B → Directory K R B → Call K → Answer K → Type 0
   KeepsLaw before after call given =
-      Sound before → (start : Start K) (h : List (Event K)) → Reached o.order start h (state before)
+      (start : Start K) (h : List (Event K)) → Reached o.order start h (state before)
       → Reached o.order start (record { call = call; answer = given } ∷ h) (state after)
       × Law o.order start (record { call = call; answer = given } ∷ h) (state after)
 
   -- the record of a peer was written as it is once reserved; the places stay
   pub record Reserving (before after : Directory K R B) (key : K) (reserved : Record K) : Type 0 where
-    pub sound : Sound after
     pub leaves : state after ≡ after_reserving o.order (state before) key (write reserved)
     pub places : SamePlaces before after
 
   -- the record of a peer was written or erased, and its bit set in every set held
   pub record Telling (before after : Directory K R B) (key : K) (turn : Turn K) : Type 0 where
-    pub sound : Sound after
     pub leaves : state after ≡ after_telling o.order (state before) key turn
     pub record_places : kept.PlacesAfter m o (kept.places_of m before.records) (kept.places_of m after.records) key turn
     pub block_places : blocked.places_of n after.blocks ≡ blocked.places_of n before.blocks
@@ -107,14 +93,12 @@ module _ {K R B : Type 0} (o : ordered.Ghosts K) (m : roll.Ghosts R K) (n : roll
 
   -- an info was taken, which counts as one, or passed over; the places stay
   pub record LearntOne (before after : Directory K R B) (info : Info K) (one : ℕ) : Type 0 where
-    pub sound : Sound after
     pub counts : one ≡ cond (is_some (info_turn o.order info (record_of o.order (state before) info.public_key))) 1 0
     pub leaves : state after ≡ after_info o.order (state before) info
     pub places : SamePlaces before after
 
   -- of a list of infos all but those that are left were taken or passed over, and so many were taken
   pub record LearntAll (before after : Directory K R B) (infos left : List (Info K)) (count : ℕ) : Type 0 where
-    pub sound : Sound after
     pub counts : count + taken o.order (state after) left ≡ taken o.order (state before) infos
     pub leaves : after_infos o.order (state after) left ≡ after_infos o.order (state before) infos
     pub places : SamePlaces before after

@@ -1,3 +1,4 @@
 pub mod Tokens
+pub mod Parts
 pub mod Directories
 pub mod Tracking

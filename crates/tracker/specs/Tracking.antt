@@ -17,7 +17,7 @@ use Rattle.model.specs.State.{State, PeerSet}
 use Rattle.model.specs.Track.{is_above, left, tidied, to_close, with_bits, track_refusal, with_set, closed, dropped}
 use Rattle.model.specs.declared.fault.Fault.{Fault}
 use Rattle.model.specs.declared.fault.Fault.TheVariants as fault
-use Rattle.tracker.specs.Directories.{Sound, state}
+use Rattle.tracker.specs.Directories.{state}
 use Rattle.tracker.specs.declared.directory.Directory.{Directory}
 
 module _ {K : Type 0} where
@@ -50,7 +50,6 @@ module _ {K R B : Type 0} (o : ordered.Ghosts K) (m : roll.Ghosts R K) (n : roll
 
   -- a set has left: its members are in one set fewer, and records that nothing holds are gone
   pub record DroppedSet (before after : Directory K R B) (oldest : PeerSet K) (named : List K) : Type 0 where
-    pub sound : Sound o m n after
     pub only_records : OnlyRecords before after
     pub now_records : kept.records_of m o after.records ≡ tidied o.order oldest (left o.order oldest (kept.records_of m o before.records))
     pub names : named ≡ to_close o.order oldest (left o.order oldest (kept.records_of m o before.records))
@@ -65,7 +64,6 @@ module _ {K R B : Type 0} (o : ordered.Ghosts K) (m : roll.Ghosts R K) (n : roll
   -- the members of a set have joined, and the bits of its primaries are set
   pub record JoinedSet (before after : Directory K R B) (set marked : PeerSet K) : Type 0 where
     pub room : kept.fits m o before.records set ≡ true
-    pub sound : Sound o m n after
     pub only_records : OnlyRecords before after
     pub now_records : kept.records_of m o after.records ≡ kept.with_members m o set (kept.records_of m o before.records)
     pub now_marked : Marked after set marked
@@ -87,7 +85,6 @@ module _ {K R B : Type 0} (o : ordered.Ghosts K) (m : roll.Ghosts R K) (n : roll
 
   -- a set was entered, and the oldest has left if there were too many
   pub record EnteredSet (before after : Directory K R B) (set : PeerSet K) (named : List K) : Type 0 where
-    pub sound : Sound o m n after
     pub names : named ≡ closed o.order (entered before set)
     pub leaves : state o m n after ≡ dropped o.order (entered before set)
     pub emptied : kept.Emptied (kept.places_of m before.records) (kept.places_of m after.records)
@@ -96,7 +93,6 @@ module _ {K R B : Type 0} (o : ordered.Ghosts K) (m : roll.Ghosts R K) (n : roll
   -- a set was made and its members have joined
   pub record Admitted (before after : Directory K R B) (index : ℕ) (primary secondary : List K) (set : PeerSet K) : Type 0 where
     pub accepted : track_refusal o.order (state o m n before) index primary secondary ≡ None
-    pub sound : Sound o m n after
     pub proper : Proper o.order set
     pub enters : entered after set ≡ with_set o.order (state o m n before) index primary secondary
     pub filled : kept.Filled (kept.places_of m before.records) (kept.places_of m after.records)
@@ -119,7 +115,6 @@ module _ {K R B : Type 0} (o : ordered.Ghosts K) (m : roll.Ghosts R K) (n : roll
   -- a set was tracked
   pub record Tracked (before after : Directory K R B) (index : ℕ) (primary secondary : List K) (named : List K) : Type 0 where
     pub accepted : track_refusal o.order (state o m n before) index primary secondary ≡ None
-    pub sound : Sound o m n after
     pub names : named ≡ closed o.order (with_set o.order (state o m n before) index primary secondary)
     pub leaves : state o m n after ≡ dropped o.order (with_set o.order (state o m n before) index primary secondary)
     pub places : TrackPlaces before after

@@ -1,5 +1,5 @@
 // What the holder of a token tells the tracker.
-#[derive(Clone, Copy)]
+#[derive(Clone, Copy, Debug, PartialEq, Eq)]
 pub enum Message<K> {
     // The peer is connected.
     Connect(K),

@@ -6,7 +6,7 @@ use record::Role;
 use types::Ingress;
 
 // What a peer is reserved or connected for.
-#[derive(Clone, Copy)]
+#[derive(Clone, Copy, Debug)]
 pub enum Metadata<K> {
     // We dial the peer with this key, at this ingress.
     Dialer(K, Ingress),
@@ -20,8 +20,7 @@ impl<K: Key> Metadata<K> {
         ensures { result ≡ metadata_key self.now }
     {
         match self {
-            Metadata::Dialer(key, _) => *key,
-            Metadata::Listener(key) => *key,
+            Metadata::Dialer(key, _) | Metadata::Listener(key) => *key,
         }
     }
 

@@ -1,7 +1,7 @@
 ghost use Rattle.std.specs.Prelude.{◌≡◌, ◌≤◌, true, [], is_err};
 ghost use Rattle.model.specs.Calls.{all_well_formed};
 ghost use Rattle.model.specs.Runs.{UpdatePeers, taken_or};
-ghost use Rattle.tracker.specs.Directories.{Sound, Unchanged, SamePlaces, Performed, LearntOne, LearntAll};
+ghost use Rattle.tracker.specs.Directories.{Unchanged, SamePlaces, Performed, LearntOne, LearntAll};
 
 use super::Directory;
 use keys::OrderedKey;
@@ -13,12 +13,7 @@ use types::Info;
 fn are_well_formed<K: OrderedKey>(infos: &[Info<K>]) -> bool
     ensures { result ≡ all_well_formed K.OrderedKey.order infos.now }
 {
-    for info in infos {
-        if !info.ingress.is_well_formed() {
-            return false;
-        }
-    }
-    true
+    infos.iter().all(|info| info.ingress.is_well_formed())
 }
 
 impl<K: OrderedKey, R: Roll<K>, B: Roll<K>> Directory<K, R, B> {
@@ -26,7 +21,7 @@ impl<K: OrderedKey, R: Roll<K>, B: Roll<K>> Directory<K, R, B> {
     // held. Answers 1 if it was taken, and 0 if it was passed over.
     fn learn(&mut self, info: &Info<K>) -> usize
         ensures few { result ≤ 1 }
-        ensures learnt { Sound K.OrderedKey.own R.Roll B.Roll self.old → LearntOne K.OrderedKey.own R.Roll B.Roll self.old self.new info.now result }
+        ensures learnt { LearntOne K.OrderedKey.own R.Roll B.Roll self.old self.new info.now result }
     {
         let Some(learnt) = self.records.learn(info) else {
             return 0;
@@ -37,7 +32,7 @@ impl<K: OrderedKey, R: Roll<K>, B: Roll<K>> Directory<K, R, B> {
 
     // Takes the infos one after the other, and answers how many were taken.
     fn learn_all(&mut self, infos: &[Info<K>]) -> usize
-        ensures { Sound K.OrderedKey.own R.Roll B.Roll self.old → LearntAll K.OrderedKey.own R.Roll B.Roll self.old self.new infos.now [] result }
+        ensures { LearntAll K.OrderedKey.own R.Roll B.Roll self.old self.new infos.now [] result }
     {
         let mut taken = 0;
         for info in infos {
@@ -49,9 +44,9 @@ impl<K: OrderedKey, R: Roll<K>, B: Roll<K>> Directory<K, R, B> {
     // Takes infos of peers, those that have a record and for which an info is news, and answers how
     // many were taken. Refused with 2 if the host of any is malformed.
     pub fn update_peers(&mut self, infos: &[Info<K>]) -> Result<usize, Fault>
-        ensures performed { Sound K.OrderedKey.own R.Roll B.Roll self.old → Performed K.OrderedKey.own R.Roll B.Roll self.old self.new (UpdatePeers infos.now) (taken_or result) }
+        ensures performed { Performed K.OrderedKey.own R.Roll B.Roll self.old self.new (UpdatePeers infos.now) (taken_or result) }
         ensures refusal_changes_nothing { is_err result ≡ true → Unchanged K.OrderedKey.own R.Roll B.Roll self.old self.new }
-        ensures places_stay { Sound K.OrderedKey.own R.Roll B.Roll self.old → SamePlaces K.OrderedKey.own R.Roll B.Roll self.old self.new }
+        ensures places_stay { SamePlaces K.OrderedKey.own R.Roll B.Roll self.old self.new }
     {
         if !are_well_formed(infos) {
             return Err(Fault::MalformedHost);

@@ -1,10 +1,11 @@
-ghost use Rattle.std.specs.Prelude.{◌≡◌, ◌&&◌};
+ghost use Rattle.std.specs.Prelude.{◌≡◌, ◌≤◌, true, ◌&&◌, length, is_ok};
+ghost use Rattle.std.specs.Result.{result_err};
 ghost use Rattle.keys.specs.Order.{ascending};
 ghost use Rattle.key_list.specs.Members.{keys_in};
+ghost use Rattle.records.specs.Kept.{places_of};
 ghost use Rattle.records.specs.Ranks.{Proper};
 ghost use Rattle.peer_sets.specs.Held.{set_of, held};
 ghost use Rattle.model.specs.Track.{is_above};
-ghost use Rattle.tracker.specs.Directories.{Sound};
 ghost use Rattle.tracker.specs.Tracking.{early_refusal, Marked, SetAnswer, JoinSetAnswer, AdmitAnswer, TrackAnswer, EnteredSet, DroppedSet};
 
 use super::Directory;
@@ -18,45 +19,54 @@ use rolls::Roll;
 fn is_above(newest: Option<u64>, index: u64) -> bool
     ensures { result ≡ is_above newest index }
 {
-    match newest {
-        Some(newest) => newest < index,
-        None => true,
+    newest.is_none_or(|newest| newest < index)
+}
+
+// A set that is to be tracked.
+#[derive(Clone, Copy)]
+struct NewSet<'a, K> {
+    // The number by which peers know it.
+    index: u64,
+    // Its primaries.
+    primary: &'a [K],
+    // Its secondaries. Those that are primaries too are primaries only.
+    secondary: &'a [K],
+}
+
+impl<K: OrderedKey> NewSet<'_, K> {
+    // Whether both lists of keys ascend.
+    fn is_ascending(&self) -> bool
+        ensures { result ≡ (ascending K.OrderedKey.order self.now.primary.now && ascending K.OrderedKey.order self.now.secondary.now) }
+    {
+        is_ascending(self.primary) && is_ascending(self.secondary)
     }
 }
 
-// Whether both lists of keys ascend.
-fn are_ascending<K: OrderedKey>(primary: &[K], secondary: &[K]) -> bool
-    ensures { result ≡ (ascending K.OrderedKey.order primary.now && ascending K.OrderedKey.order secondary.now) }
-{
-    is_ascending(primary) && is_ascending(secondary)
-}
-
 impl<K: OrderedKey, R: Roll<K>, B: Roll<K>> Directory<K, R, B> {
-    // Why a set is refused, whatever room there is: 6 if a list does not ascend, 7 if the index is
-    // held, 8 if it is below the newest.
-    fn early_refusal(&self, index: u64, primary: &[K], secondary: &[K]) -> Option<Fault>
-        ensures { result ≡ early_refusal K.OrderedKey.order (held self.now.sets) index primary.now secondary.now }
+    // Refuses a set whatever room there is: with 6 if a list does not ascend, 7 if the index is held,
+    // 8 if it is below the newest.
+    fn check_new(&self, given: &NewSet<K>) -> Result<(), Fault>
+        ensures few_places { is_ok result ≡ true → length (places_of R.Roll self.now.records) ≤ 64 }
+        ensures refused { result_err result ≡ early_refusal K.OrderedKey.order (held self.now.sets) given.now.index given.now.primary.now given.now.secondary.now }
     {
-        if !are_ascending(primary, secondary) {
-            return Some(Fault::NotAscending);
+        if !given.is_ascending() {
+            return Err(Fault::NotAscending);
         }
-        if self.sets.is_held(index) {
-            return Some(Fault::IndexHeld);
+        if self.sets.is_held(given.index) {
+            return Err(Fault::IndexHeld);
         }
-        if !is_above(self.sets.newest(), index) {
-            return Some(Fault::IndexBelowNewest);
+        if !is_above(self.sets.newest(), given.index) {
+            return Err(Fault::IndexBelowNewest);
         }
-        None
+        Ok(())
     }
 
     // Sets the bit of each primary of a new set.
     fn mark(&self, set: &mut PeerSet<K>)
-        ensures { Sound K.OrderedKey.own R.Roll B.Roll self.now → Marked K.OrderedKey.own R.Roll B.Roll self.now (set_of set.old) (set_of set.new) }
+        ensures { Marked K.OrderedKey.own R.Roll B.Roll self.now (set_of set.old) (set_of set.new) }
     {
-        for i in 0..set.primary_len() {
-            let Some(key) = set.primary_at(i) else {
-                return;
-            };
+        let primaries = set.primaries();
+        for (i, key) in primaries.iter().enumerate() {
             set.mark_at(i, self.records.is_known(&key, self.config.dial_fail_limit));
         }
     }
@@ -64,7 +74,8 @@ impl<K: OrderedKey, R: Roll<K>, B: Roll<K>> Directory<K, R, B> {
     // The oldest set leaves: its members' counts go down, those whose links are to be closed are
     // named, and the records of those that nothing holds any more are deleted.
     fn drop_set(&mut self, oldest: &PeerSet<K>) -> KeyList<K>
-        ensures { Sound K.OrderedKey.own R.Roll B.Roll self.old → Proper K.OrderedKey.order (set_of oldest.now) → DroppedSet K.OrderedKey.own R.Roll B.Roll self.old self.new (set_of oldest.now) (keys_in result) }
+        requires { Proper K.OrderedKey.order (set_of oldest.now) }
+        ensures { DroppedSet K.OrderedKey.own R.Roll B.Roll self.old self.new (set_of oldest.now) (keys_in result) }
     {
         self.records.leave(oldest);
         let named = self.records.to_close(oldest);
@@ -74,22 +85,18 @@ impl<K: OrderedKey, R: Roll<K>, B: Roll<K>> Directory<K, R, B> {
 
     // Makes a new set, unless it is refused: with 6, 7 or 8, or with 9 if it has more members than
     // there are places.
-    fn make_set(&self, index: u64, primary: &[K], secondary: &[K]) -> Result<PeerSet<K>, Fault>
-        ensures { Sound K.OrderedKey.own R.Roll B.Roll self.now → SetAnswer K.OrderedKey.own R.Roll B.Roll self.now index primary.now secondary.now result }
+    fn make_set(&self, given: &NewSet<K>) -> Result<PeerSet<K>, Fault>
+        ensures { SetAnswer K.OrderedKey.own R.Roll B.Roll self.now given.now.index given.now.primary.now given.now.secondary.now result }
     {
-        if let Some(fault) = self.early_refusal(index, primary, secondary) {
-            return Err(fault);
-        }
-        match PeerSet::new(index, primary, secondary) {
-            Some(set) => Ok(set),
-            None => Err(Fault::TooManyPeers),
-        }
+        self.check_new(given)?;
+        PeerSet::new(given.index, given.primary, given.secondary).ok_or(Fault::TooManyPeers)
     }
 
     // Has the members of a new set join, and sets the bits of its primaries. Refused with 9 if there is
     // no room for the records of all of them.
     fn join_set(&mut self, set: &mut PeerSet<K>) -> Result<(), Fault>
-        ensures { Sound K.OrderedKey.own R.Roll B.Roll self.old → Proper K.OrderedKey.order (set_of set.old) → JoinSetAnswer K.OrderedKey.own R.Roll B.Roll self.old self.new (set_of set.old) (set_of set.new) result }
+        requires { Proper K.OrderedKey.order (set_of set.old) }
+        ensures { JoinSetAnswer K.OrderedKey.own R.Roll B.Roll self.old self.new (set_of set.old) (set_of set.new) result }
     {
         self.records.join(set)?;
         self.mark(set);
@@ -99,7 +106,8 @@ impl<K: OrderedKey, R: Roll<K>, B: Roll<K>> Directory<K, R, B> {
     // Enters a new set, whose members have joined. If there are then too many, the oldest leaves, and
     // its members whose links are to be closed are named.
     fn enter_set(&mut self, set: PeerSet<K>) -> KeyList<K>
-        ensures { Sound K.OrderedKey.own R.Roll B.Roll self.old → Proper K.OrderedKey.order (set_of set) → EnteredSet K.OrderedKey.own R.Roll B.Roll self.old self.new (set_of set) (keys_in result) }
+        requires { Proper K.OrderedKey.order (set_of set) }
+        ensures { EnteredSet K.OrderedKey.own R.Roll B.Roll self.old self.new (set_of set) (keys_in result) }
     {
         match self.sets.enter(set, self.config.max_sets) {
             Some(oldest) => self.drop_set(&oldest),
@@ -108,21 +116,19 @@ impl<K: OrderedKey, R: Roll<K>, B: Roll<K>> Directory<K, R, B> {
     }
 
     // Makes a new set and has its members join, unless it is refused.
-    fn admit(&mut self, index: u64, primary: &[K], secondary: &[K]) -> Result<PeerSet<K>, Fault>
-        ensures { Sound K.OrderedKey.own R.Roll B.Roll self.old → AdmitAnswer K.OrderedKey.own R.Roll B.Roll self.old self.new index primary.now secondary.now result }
+    fn admit(&mut self, given: &NewSet<K>) -> Result<PeerSet<K>, Fault>
+        ensures { AdmitAnswer K.OrderedKey.own R.Roll B.Roll self.old self.new given.now.index given.now.primary.now given.now.secondary.now result }
     {
-        let mut set = self.make_set(index, primary, secondary)?;
+        let mut set = self.make_set(given)?;
         self.join_set(&mut set)?;
         Ok(set)
     }
 
     // Tracks a new set, and answers the keys of the links to close.
-    fn track_set(&mut self, index: u64, primary: &[K], secondary: &[K]) -> Result<KeyList<K>, Fault>
-        ensures { Sound K.OrderedKey.own R.Roll B.Roll self.old → TrackAnswer K.OrderedKey.own R.Roll B.Roll self.old self.new index primary.now secondary.now result }
+    fn track_set(&mut self, given: &NewSet<K>) -> Result<KeyList<K>, Fault>
+        ensures { TrackAnswer K.OrderedKey.own R.Roll B.Roll self.old self.new given.now.index given.now.primary.now given.now.secondary.now result }
     {
-        match self.admit(index, primary, secondary) {
-            Ok(set) => Ok(self.enter_set(set)),
-            Err(fault) => Err(fault),
-        }
+        let set = self.admit(given)?;
+        Ok(self.enter_set(set))
     }
 }

@@ -7,19 +7,18 @@ use Rattle.model.specs.Track.{tidied, to_close}
 use Rattle.tracker.proofs.directory.Directory.drop_set.Goals as goal
 
 pub returns : goal.returns
-returns g c sound proper =
+returns g c =
     let o = g.K.OrderedKey in
-    let d = c.args.self.now in
     let lawful = g.met.K.OrderedKey.lawful in
     let set = set_of c.args.oldest.now in
-    let records = records_of g.R.Roll o d.records in
-    let ordered = ascending-entries g.R.Roll o lawful d.records.table in
-    let l = c.leave.ensures sound.records_sound in
-    let t = c.tidy.ensures l.sound in
-    record {
-      sound = record { records_sound = t.sound; blocks_sound = sound.blocks_sound; some_sets = sound.some_sets; few_sets = sound.few_sets; sets_proper = sound.sets_proper };
+    let records = records_of g.R.Roll o c.self.inside.records in
+    let ordered = ascending-entries g.R.Roll o lawful c.self.inside.records.table in
+    let proper = c.requires in
+    let l = c.leave.ensures in
+    let t = c.tidy.ensures in
+    rw (← c.self.view_is) (record {
       only_records = record { same_own = refl; same_config = refl; same_sets = refl; same_blocks = refl };
       now_records = t.now_records ∙ ap (tidied o.order set) l.now_records ∙ sym (tidied-left_there o.order lawful set records ordered proper.primaries_ascend proper.secondaries_ascend);
-      names = c.to_close-named.ensures l.sound ∙ ap (to_close o.order set) l.now_records ∙ sym (to_close-left_there o.order lawful set records ordered proper.primaries_ascend proper.secondaries_ascend);
+      names = c.to_close-named.ensures ∙ ap (to_close o.order set) l.now_records ∙ sym (to_close-left_there o.order lawful set records ordered proper.primaries_ascend proper.secondaries_ascend);
       emptied = subst (λ ps. Emptied ps (places_of g.R.Roll c.tidy.new.self)) l.same_places t.emptied;
-    }
+    })

@@ -1,7 +1,9 @@
+use Rattle.std.proofs.Common.{◌≡◌, length}
 use Rattle.peer_sets.specs.Held.{set_of}
-use Rattle.tracker.specs.Directories.{Sound}
 use Rattle.tracker.specs.Tracking.{MarkedFirst}
 use Rattle.tracker.proofs.directory.Directory.mark.Given as goal
 
 abbrev pub invariant-loop-i : goal.invariant-loop-i
-invariant-loop-i g l = Sound g.K.OrderedKey g.R.Roll g.B.Roll l.self → MarkedFirst g.K.OrderedKey g.R.Roll g.B.Roll l.self (set_of l.initial.set) (set_of l.set) l.i
+invariant-loop-i g l =
+    (l.i ≡ length l.yielded)
+    × MarkedFirst g.K.OrderedKey g.R.Roll g.B.Roll l.self (set_of l.initial.set) (set_of l.set) l.i

@@ -1,32 +1,37 @@
-use Rattle.std.proofs.Common.{refl, ap, ◌∙◌}
+use Rattle.std.proofs.Common.{◌≡◌, true, is_some, sym, refl, ap, ◌∙◌, subst}
 use Rattle.turns.specs.Turned.{taken}
 use Rattle.peer_sets.specs.Held.{held}
+use Rattle.model.specs.Calls.{record_of}
 use Rattle.model.specs.Sets.{marked_all}
-use Rattle.tracker.proofs.Parts.{same_state}
+use Rattle.tracker.specs.Directories.{state}
+use Rattle.tracker.specs.declared.directory.Directory.{Directory}
+use Rattle.tracker.proofs.Parts.{same_state, sound_with}
 use Rattle.tracker.proofs.Proper.{now-marked, proper-marked}
 use Rattle.tracker.proofs.Tellings.{told-known, places-length}
 use Rattle.tracker.proofs.directory.Directory.tell.Goals as goal
 
-pub returns : goal.returns
-returns g c sound there =
-    let d = c.args.self.now in
+pub invariant_of-self : goal.invariant_of-self
+invariant_of-self g c =
+    let there = subst (λ (d : Directory g.row.K.Denot g.row.R.Denot g.row.B.Denot). is_some (record_of g.K.OrderedKey.order (state g.K.OrderedKey g.R.Roll g.B.Roll d) c.args.key.now) ≡ true) (sym c.self.view_is) c.requires in
     let o = g.K.OrderedKey in
     let k = c.args.key.now in
-    let w = c.settle.ensures.settled sound.records_sound there in
-    record {
-      sound =
-          record {
-            records_sound = w.sound;
-            blocks_sound = sound.blocks_sound;
-            some_sets = sound.some_sets;
-            few_sets = sound.few_sets;
-            sets_proper = proper-marked o.order g.met.K.OrderedKey.lawful k c.is_known.result (held d.sets) (held c.update.new.self) c.update.ensures sound.sets_proper;
-          };
+    let before = held c.self.inside.sets in
+    sound_with o.order _ _ _ before _ (places-length g.R.Roll o c.self.inside.records c.settle.new.self k (taken c.args.turn) (c.settle.ensures.settled there).now_places)
+    (proper-marked o.order g.met.K.OrderedKey.lawful k c.is_known.result before (held c.update.new.self) c.update.ensures c.self.invariant.sets_proper) c.self.invariant
+
+pub returns : goal.returns
+returns g c =
+    let there = subst (λ (d : Directory g.row.K.Denot g.row.R.Denot g.row.B.Denot). is_some (record_of g.K.OrderedKey.order (state g.K.OrderedKey g.R.Roll g.B.Roll d) c.args.key.now) ≡ true) (sym c.self.view_is) c.requires in
+    let o = g.K.OrderedKey in
+    let k = c.args.key.now in
+    let before = held c.self.inside.sets in
+    let w = c.settle.ensures.settled there in
+    rw (← c.self.view_is) (record {
       leaves =
-          same_state _ _ refl refl (places-length g.R.Roll o d.records c.settle.new.self k (taken c.args.turn) w.now_places) refl w.now_records
-          (now-marked o.order g.met.K.OrderedKey.lawful k c.is_known.result (held d.sets) (held c.update.new.self) c.update.ensures sound.sets_proper
-          ∙ ap (λ t. marked_all o.order k t (held d.sets)) c.is_known.ensures
-          ∙ told-known o.order d.config.dial_fail_limit k c.args.turn (held d.sets)) refl;
+          same_state _ _ refl refl (places-length g.R.Roll o c.self.inside.records c.settle.new.self k (taken c.args.turn) w.now_places) refl w.now_records
+          (now-marked o.order g.met.K.OrderedKey.lawful k c.is_known.result before (held c.update.new.self) c.update.ensures c.self.invariant.sets_proper
+          ∙ ap (λ t. marked_all o.order k t before) c.is_known.ensures
+          ∙ told-known o.order c.self.inside.config.dial_fail_limit k c.args.turn before) refl;
       record_places = w.now_places;
       block_places = refl;
-    }
+    })

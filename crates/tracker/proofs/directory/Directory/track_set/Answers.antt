@@ -1,15 +1,18 @@
-use Rattle.std.proofs.Common.{ap, ◌∙◌}
+use Rattle.std.proofs.Common.{ap, ◌∙◌, rules}
 use Rattle.records.specs.Kept.{places_of}
 use Rattle.model.specs.Track.{closed, dropped}
 use Rattle.tracker.proofs.directory.Directory.track_set.Goals as goal
 
-pub returns-in-Ok : goal.returns-in-Ok
-returns-in-Ok g c sound =
-    let a = c.in-Ok.ensures sound in
-    let e = c.enter_set.ensures a.sound a.proper in
+-- the directory, the set and the keys named are each below half of the memory, and the set is proper
+pub enter_set-requires : goal.enter_set-requires
+enter_set-requires g c = (search rules, (search rules, (search rules, c.in_ok-set.ensures.proper)))
+
+pub returns : goal.returns
+returns g c =
+    let a = c.in_ok-set.ensures in
+    let e = c.enter_set.ensures in
     record {
       accepted = a.accepted;
-      sound = e.sound;
       names = e.names ∙ ap (closed g.K.OrderedKey.order) a.enters;
       leaves = e.leaves ∙ ap (dropped g.K.OrderedKey.order) a.enters;
       places =
@@ -18,6 +21,3 @@ returns-in-Ok g c sound =
             block_places = e.block_places ∙ a.block_places;
           };
     }
-
-pub returns-in-Err : goal.returns-in-Err
-returns-in-Err g c sound = c.in-Err.ensures sound
