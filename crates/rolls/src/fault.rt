@@ -3,23 +3,41 @@ ghost use Rattle.rolls.specs.Faults.{number_of};
 ghost use Rattle.rolls.specs.declared.fault.RollFault.TheVariants.{OutOfMemory};
 
 use std::alloc::AllocError;
+use std::fmt;
 use thiserror::Error;
 
 // Why a roll refuses a call.
 #[derive(Clone, Copy, Debug, PartialEq, Eq, Error)]
 pub enum RollFault {
     // The key is absent and no place is empty.
-    #[error("no place is empty")]
+    #[error(fmt = full)]
     Full,
     // The place to be struck is empty.
-    #[error("the place is empty already")]
+    #[error(fmt = vacant)]
     Vacant,
     // The size is none that a roll can have.
-    #[error("a roll has 1 to 64 places")]
+    #[error(fmt = bad_size)]
     BadSize,
     // There is no memory for the roll.
-    #[error("no memory for the roll")]
+    #[error(fmt = out_of_memory)]
     OutOfMemory,
+}
+
+// What is printed of each fault; a width that is asked for is kept.
+fn full<W: fmt::Write>(f: &mut fmt::Formatter<W>) -> fmt::Result {
+    f.pad("no place is empty")
+}
+
+fn vacant<W: fmt::Write>(f: &mut fmt::Formatter<W>) -> fmt::Result {
+    f.pad("the place is empty already")
+}
+
+fn bad_size<W: fmt::Write>(f: &mut fmt::Formatter<W>) -> fmt::Result {
+    f.pad("a roll has 1 to 64 places")
+}
+
+fn out_of_memory<W: fmt::Write>(f: &mut fmt::Formatter<W>) -> fmt::Result {
+    f.pad("no memory for the roll")
 }
 
 impl RollFault {

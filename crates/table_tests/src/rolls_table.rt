@@ -98,3 +98,34 @@ fn sizes_that_are_refused(rt: HostRuntime) {
         assert_eq!(rt; hashed.and_then(|fault| fault.number()), Some(22));
     }
 }
+
+// A fault is printed in the width that is asked for, and cut where it is to be cut.
+#[test]
+fn faults_are_padded(rt: HostRuntime) -> Result<(), Fail> {
+    let full = RollFault::Full;
+    assert_eq!(rt;
+        format!(in rt.alloc(); "{full}")?.as_str(),
+        "no place is empty"
+    );
+    assert_eq!(rt;
+        format!(in rt.alloc(); "{full:>20}")?.as_str(),
+        "   no place is empty"
+    );
+    assert_eq!(rt; format!(in rt.alloc(); "{full:.2}")?.as_str(), "no");
+    let vacant = RollFault::Vacant;
+    assert_eq!(rt;
+        format!(in rt.alloc(); "{vacant:<28}|")?.as_str(),
+        "the place is empty already  |"
+    );
+    let size = RollFault::BadSize;
+    assert_eq!(rt;
+        format!(in rt.alloc(); "{size:^27}")?.as_str(),
+        " a roll has 1 to 64 places "
+    );
+    let memory = RollFault::OutOfMemory;
+    assert_eq!(rt;
+        format!(in rt.alloc(); "{memory:-<24}")?.as_str(),
+        "no memory for the roll--"
+    );
+    Ok(())
+}

@@ -1,4 +1,4 @@
-use hostname::Hostname;
+use hostname::{Hostname, MalformedHost};
 use std::test::Fail;
 use types::{BitVec, Moment, Span, earliest};
 
@@ -55,6 +55,22 @@ fn hosts_at_their_limits(rt: HostRuntime) -> Result<(), Fail> {
     assert!(rt; short.is_same(&Hostname::new(b"a")?));
     assert_eq!(rt; padded.byte_at(1), Some(0));
     assert_eq!(rt; padded.byte_at(2), None);
+    Ok(())
+}
+
+// The refusal is printed in the width that is asked for, and cut where it is to be cut.
+#[test]
+fn a_refusal_is_padded(rt: HostRuntime) -> Result<(), Fail> {
+    let fault = MalformedHost;
+    assert_eq!(rt;
+        format!(in rt.alloc(); "{fault}")?.as_str(),
+        "the host is malformed"
+    );
+    assert_eq!(rt;
+        format!(in rt.alloc(); "{fault:>24}")?.as_str(),
+        "   the host is malformed"
+    );
+    assert_eq!(rt; format!(in rt.alloc(); "{fault:.8}")?.as_str(), "the host");
     Ok(())
 }
 
