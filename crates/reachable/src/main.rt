@@ -8,8 +8,25 @@ use hostname::Hostname;
 use ip_addr::{Block, IpAddr, Ipv4Addr, Ipv6Addr};
 use std::{io, net};
 
-// The address that a line has, or none.
+// The most bytes that an address is written with: IPv6 with the last four octets as in IPv4.
+const LONGEST: usize = 45;
+
+// Whether a line has more zeros in a row than a number of an address can have.
+fn has_many_zeros(line: &str) -> bool {
+    let zeros = line.bytes().try_fold(0u8, |zeros, byte| match byte {
+        b'0' if zeros < 4 => Some(zeros + 1),
+        b'0' => None,
+        _ => Some(0),
+    });
+    zeros.is_none()
+}
+
+// The address that a line has, or none. The parser reads all zeros that a number begins with, so it is
+// not given a line that is too long for an address or has too many zeros in a row.
 fn address(line: &str) -> Option<IpAddr> {
+    if line.len() > LONGEST || has_many_zeros(line) {
+        return None;
+    }
     let address = match line.parse::<net::IpAddr>().ok()? {
         net::IpAddr::V4(address) => IpAddr::V4(Ipv4Addr {
             octets: address.octets(),
