@@ -52,11 +52,10 @@ impl Hostname {
     }
 
     // Whether the other name has the same bytes.
-    #[tactic(auto, using(crate::proofs::Hosts::same_from_fields))]
     pub fn is_same(&self, other: &Hostname) -> bool
         ensures { result ≡ same_host self.now other.now }
     {
-        self == other
+        self.as_slice() == other.as_slice()
     }
 
     // Whether the bytes are a name of a host: labels of letters, digits and hyphens with dots between them.

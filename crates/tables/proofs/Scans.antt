@@ -58,6 +58,13 @@ module _ {K V : Type 0} where
   zip_some None v w k e = cc
   zip_some (Some j) v w k e = let pair : (j, v) ≡ (k, w) = same_some e in (ap (λ x. Some x.0) pair, ap (λ x. x.1) pair)
 
+  -- what the key and the value of a place are together
+  pub both_there : (o : Option K) (p : Option V) (k : K) (w : V) → o ≡ Some k → p ≡ Some w → option_zip o p ≡ Some (k, w)
+  both_there o p k w e f = ap (λ x. option_zip x p) e ∙ ap (option_zip (Some k)) f
+
+  pub not_both : (o : Option K) (p : Option V) → o ≡ None → option_zip o p ≡ None
+  not_both o p e = ap (λ x. option_zip x p) e
+
 -- Downward from the last place: the keys found pass a test and stand at the place n or further on.
 module _ {K V : Type 0} (order : K → K → Ordering) (lawful : Lawful order) (test : K → V → Bool) (ps : List (Option K)) (vs : List V) (long : length vs ≡ length ps) where
   -- the keys that are found from a place on

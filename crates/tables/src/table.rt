@@ -135,10 +135,14 @@ impl<K: OrderedKey, V: Copy, R: Roll<K>> Table<K, V, R> {
     {
         let mut found = KeyList::new();
         for place in (0..self.size()).rev() {
-            if let Some((key, value)) = self.key_at(place).zip(self.value_at(place)) {
-                if test(key, &value) {
-                    found.insert(key);
-                }
+            let Some(key) = self.key_at(place) else {
+                continue;
+            };
+            let Some(value) = self.value_at(place) else {
+                continue;
+            };
+            if test(key, &value) {
+                found.insert(key);
             }
         }
         found

@@ -40,14 +40,17 @@ impl Key for StationKey {
     }
 }
 
-// Station keys are compared byte by byte from the front.
+// Station keys are compared byte by byte from the front. Most differ in the first byte already.
 impl OrderedKey for StationKey {
     ghost order = { λ a b. lexical a.bytes b.bytes };
 
     ghost lawful = { lawful_by (λ k. k.bytes) lexical same_station lexical_lawful };
 
     fn compare(&self, other: &StationKey) -> Ordering {
-        self.bytes.cmp(&other.bytes)
+        match self.bytes[0].cmp(&other.bytes[0]) {
+            Ordering::Equal => self.bytes.cmp(&other.bytes),
+            apart => apart,
+        }
     }
 }
 
