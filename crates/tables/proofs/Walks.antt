@@ -1,12 +1,13 @@
 -- Walks over an ascending list of entries by index, and what a walk may do to the entry it has come to.
-use Rattle.std.proofs.Common.{◌≡◌, ℕ, zero, suc, ◌+◌, List, [], ◌∷◌, ◌++◌, length, drop, Some, None, Ordering, Less, sym, refl, ap, ◌∙◌, subst}
+use Rattle.std.proofs.Common.{◌≡◌, ℕ, zero, suc, ◌+◌, List, [], ◌∷◌, ◌++◌, length, drop, Some, None, Ordering, Less, Equal, Greater, sym, refl, ap, ◌∙◌, subst}
 use Rattle.std.specs.List.{slice_get}
 use Rattle.std.proofs.lemmas.List.{append_assoc}
 use Rattle.keys.specs.Order.{Lawful}
 use Rattle.keys.specs.declared.ordered_key.OrderedKey as ordered
 use Rattle.rolls.specs.declared.roll.Roll as roll
+use Rattle.key_list.specs.Keys.{put_by, put_key}
 use Rattle.key_list.proofs.Walks.{same_some, some_none, drop_from_nth}
-use Rattle.tables.specs.Listings.{lookup, cut, Before, Ascending, keys}
+use Rattle.tables.specs.Listings.{lookup, put, cut, Before, Ascending, keys}
 use Rattle.tables.specs.Tabled.{places_of, entries}
 use Rattle.tables.specs.declared.table.Table.{Table}
 use Rattle.tables.proofs.Entries.{above_from_below, equal_itself, before_on}
@@ -23,6 +24,15 @@ module _ {K V : Type 0} where
   length-keys [] = refl
   length-keys (e ∷ es) = ap suc (length-keys es)
 
+  pub keys-append : (es fs : List (K × V)) → keys (es ++ fs) ≡ keys es ++ keys fs
+  keys-append [] fs = refl
+  keys-append (e ∷ es) fs = ap (λ ks. e.0 ∷ ks) (keys-append es fs)
+
+  pub keys-drop : (i : ℕ) (es : List (K × V)) → keys (drop i es) ≡ drop i (keys es)
+  keys-drop zero es = refl
+  keys-drop (suc i) [] = refl
+  keys-drop (suc i) (e ∷ es) = keys-drop i es
+
   -- an index that has a key has an entry with that key
   pub entry_from_key : (es : List (K × V)) (i : ℕ) (k : K) → slice_get (keys es) i ≡ Some k → (v : V) × (slice_get es i ≡ Some (k, v))
   entry_from_key [] i k e = some_none k e refl
@@ -34,7 +44,20 @@ module _ {K V : Type 0} where
   no_entry_from_key (f ∷ es) zero e = some_none f.0 refl e
   no_entry_from_key (f ∷ es) (suc i) e = no_entry_from_key es i e
 
+  -- what is left of the entries from an index on that has a key
+  pub drop_from_key : (es : List (K × V)) (i : ℕ) (k : K) → slice_get (keys es) i ≡ Some k → (v : V) × (drop i es ≡ (k, v) ∷ drop (i + 1) es)
+  drop_from_key es i k e = let x = entry_from_key es i k e in (x.0, drop_from_nth es i (k, x.0) x.1)
+
 module _ {K V : Type 0} (order : K → K → Ordering) where
+  keys_by : (o : Ordering) (e f : K × V) (es fs : List (K × V)) → keys (put_by o e f es fs) ≡ put_by o e.0 f.0 (keys es) (keys fs)
+  keys_by Less e f es fs = refl
+  keys_by Equal e f es fs = refl
+  keys_by Greater e f es fs = refl
+
+  pub keys-put : (k : K) (v : V) (es : List (K × V)) → keys (put order k v es) ≡ put_key order k (keys es)
+  keys-put k v [] = refl
+  keys-put k v (e ∷ es) = keys_by (order k e.0) (k, v) e es (put order k v es) ∙ ap (put_by (order k e.0) k e.0 (keys es)) (keys-put k v es)
+
   module _ (lawful : Lawful order) where
     -- an entry of an ascending list: done are the entries in front of it, and rest those behind it
 
@@ -55,6 +78,12 @@ module _ {K V : Type 0} (order : K → K → Ordering) where
     pub cut_between : (done rest : List (K × V)) (k : K) (v : V) → Ascending order (done ++ (k, v) ∷ rest) → cut order k (done ++ (k, v) ∷ rest) ≡ done ++ rest
     cut_between [] rest k v a = rw (equal_itself order lawful k) (cut-before k rest a.0 a.1)
     cut_between (d ∷ done) rest k v a = rw (below_later d (k, v) done rest a, cut_between done rest k v a.1)
+
+    pub put_between : (done rest : List (K × V)) (k : K) (v w : V) → Ascending order (done ++ (k, v) ∷ rest) → put order k w (done ++ (k, v) ∷ rest) ≡ done ++ (k, w) ∷ rest
+    put_between [] rest k v w a = ap (λ o. put_by o (k, w) (k, v) rest (put order k w rest)) (lawful.itself k)
+    put_between (d ∷ done) rest k v w a =
+        ap (λ o. put_by o (k, w) d (done ++ (k, v) ∷ rest) (put order k w (done ++ (k, v) ∷ rest))) (above_from_below order lawful d.0 k (below_later d (k, v) done rest a))
+        ∙ ap (λ fs. d ∷ fs) (put_between done rest k v w a.1)
 
     -- the entry at an index is that of its key
     pub lookup_nth : (es : List (K × V)) (i : ℕ) (e : K × V) → Ascending order es → slice_get es i ≡ Some e → lookup order e.0 es ≡ Some e.1
@@ -99,6 +128,10 @@ module _ {K V : Type 0} (order : K → K → Ordering) where
       -- the entry stays
       pub walk_keep : list ≡ (done ++ (k, v) ∷ []) ++ drop (i + 1) es
       walk_keep = whole ∙ sym (append_assoc done ((k, v) ∷ []) (drop (i + 1) es))
+
+      -- its value is written
+      pub walk_put : (w : V) → put order k w list ≡ (done ++ (k, w) ∷ []) ++ drop (i + 1) es
+      walk_put w = ap (put order k w) whole ∙ put_between done (drop (i + 1) es) k v w ascends-whole ∙ sym (append_assoc done ((k, w) ∷ []) (drop (i + 1) es))
 
       -- it is removed
       pub walk_cut : cut order k list ≡ done ++ drop (i + 1) es
