@@ -35,5 +35,9 @@ pub trait OrderedKey: Key {
 pub fn is_ascending<K: OrderedKey>(keys: &[K]) -> bool
     ensures { result ≡ ascending K.OrderedKey.order keys.now }
 {
-    keys.is_sorted_by(|a, b| a.is_below(b))
+    keys.is_sorted_by(
+        |a, b| -> bool
+            ensures { result ≡ is_less (K.OrderedKey.order a.now b.now) }
+        { a.is_below(b) },
+    )
 }

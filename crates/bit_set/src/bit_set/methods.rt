@@ -1,4 +1,5 @@
 ghost use Rattle.std.specs.Prelude.{◌≡◌, ◌≤◌, length, is_some, nat_lt};
+ghost use Rattle.keys.specs.Order.{is_equal};
 ghost use Rattle.types.specs.Bits.{bit_at};
 ghost use Rattle.key_list.specs.Members.{keys_in as listed};
 ghost use Rattle.bit_set.specs.Places.{key_at as held_at, place_of, Found, Held};
@@ -56,7 +57,11 @@ impl<K: OrderedKey> BitSet<K> {
         ensures value { result ≡ place_of K.OrderedKey.order key.now 0 (keys_in self.now) }
         ensures found { Found (keys_in self.now) key.now result }
     {
-        self.keys.iter().position(|held| held.is_same(key))
+        self.keys.iter().position(
+            |held| -> bool
+                ensures { result ≡ is_equal (K.OrderedKey.order held key.entry.now) }
+            { held.is_same(key) },
+        )
     }
 
     // Whether the information of the peer at an index is known, or none past the last key.

@@ -1,5 +1,6 @@
 ghost use Rattle.std.specs.Prelude.{◌≡◌, ◌||◌, Bool, None};
 ghost use Rattle.key_list.specs.Members.{keys_in};
+ghost use Rattle.types.specs.Times.{earlier};
 ghost use Rattle.tables.specs.Stores.{Whole};
 ghost use Rattle.model.specs.Questions.{blocked_keys, first_expiry};
 ghost use Rattle.blocks.specs.Blocked.{places_of, expiries_of, Unblocked};
@@ -34,7 +35,11 @@ impl<K: OrderedKey, B: Roll<K>> Blocks<K, B> {
     pub fn peers(&self, at: Moment) -> KeyList<K>
         ensures { keys_in result ≡ blocked_keys at (expiries_of B.Roll K.OrderedKey.own self.now) }
     {
-        self.expiries.keys_where(|_, expiry| at < *expiry)
+        self.expiries.keys_where(
+            |_, expiry|
+                ensures { result ≡ earlier at expiry.now }
+            { at < *expiry },
+        )
     }
 
     // The earliest expiry, or none where there is no entry.

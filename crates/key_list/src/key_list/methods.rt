@@ -1,5 +1,6 @@
 ghost use Rattle.std.specs.Prelude.{◌≡◌, ◌+◌, ◌<◌, ◌≤◌, [], ◌∷◌, ◌++◌, length, if◌then◌else◌, nat_le, nat_lt};
 ghost use Rattle.std.specs.List.{insert, slice_get};
+ghost use Rattle.keys.specs.Order.{is_equal};
 ghost use Rattle.key_list.specs.Keys.{has, put_key};
 ghost use Rattle.key_list.specs.Places.{keys_of, taken};
 ghost use Rattle.key_list.specs.Members.{keys_in, Made, Gap};
@@ -72,6 +73,13 @@ impl<K: OrderedKey> KeyList<K> {
     pub fn key_at(&self, index: usize) -> Option<K>
         ensures { result ≡ slice_get (keys_in self.now) index }
     {
+        self.place(index)
+    }
+
+    // The key in a place, or none where it is empty or past the last.
+    fn place(&self, index: usize) -> Option<K>
+        ensures { result ≡ slice_get (keys_in self.now) index }
+    {
         *self.keys.get(index)?
     }
 
@@ -79,7 +87,11 @@ impl<K: OrderedKey> KeyList<K> {
     pub fn has(&self, key: &K) -> bool
         ensures { result ≡ has K.OrderedKey.order key.now (keys_in self.now) }
     {
-        self.iter().any(|held| held.is_same(key))
+        self.iter().any(
+            |held| -> bool
+                ensures { result ≡ is_equal (K.OrderedKey.order held key.entry.now) }
+            { held.is_same(key) },
+        )
     }
 
     // Puts a key behind the last, and answers true; where 64 are there already nothing changes.

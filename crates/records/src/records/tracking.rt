@@ -158,6 +158,9 @@ impl<K: OrderedKey, R: Roll<K>> Records<K, R> {
     pub fn chosen(&self, choice: Choice) -> KeyList<K>
         ensures { keys_in result ≡ keys_where (λ k. is_chosen choice) (records_of R.Roll K.OrderedKey.own self.now) }
     {
-        self.table.keys_where(|_, record| is_chosen(choice, record))
+        let is_one = |_: K, record: &Record<K>| -> bool
+            ensures { result ≡ is_chosen choice record.now }
+        { is_chosen(choice, record) };
+        self.table.keys_where(is_one)
     }
 }

@@ -1,6 +1,6 @@
 use Rattle.std.proofs.Common.{None, ◌∙◌, arith}
 use Rattle.key_list.proofs.Rows.{place_has}
-use Rattle.key_list.proofs.key_list.KeyList.key_at.Goals as goal
+use Rattle.key_list.proofs.key_list.KeyList.place.Goals as goal
 
 pub returns-in_err-get : goal.returns-in_err-get
 returns-in_err-get g c =
